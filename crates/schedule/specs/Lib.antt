@@ -1,0 +1,6 @@
+pub mod Rows
+pub mod Desk
+pub mod Picks
+pub mod Plans
+pub mod Promise
+pub mod Offset

@@ -1,0 +1,59 @@
+// The desk of one reader: rows, and the desk's minute and worst lateness while rows are taken one after another.
+ghost use mathlib.Core.Path.{_≡_};
+ghost use Prim.Native.Nat.{_≤_, max};
+ghost use Rattle.theory.specs.Jobs.{Job};
+ghost use Rattle.schedule.specs.Offset.{deskAt, deskAfter};
+
+// A row of the table: one transcript.
+pub struct Row {
+    pub number: u32,
+    pub release: u32,
+    pub length: u32,
+    pub due: u32,
+}
+
+// A desk in planning: the minute it stands at, and the worst lateness so far, raised by 2^31; 0 where no row is done.
+pub struct Desk {
+    pub minute: u32,
+    pub worst: u32,
+}
+
+// The later of two minutes: a row is ready at the later of the desk's minute and its release.
+pub fn later(a: u32, b: u32) -> u32
+    ensures { λ r. ⌜ r ≡ max a b ⌝ }
+{
+    if a < b { b } else { a }
+}
+
+impl Desk {
+    // The most rows of a book.
+    pub const ROWS: usize = 256;
+
+    // The latest free minute and release, and the latest due.
+    pub const MINUTES: u32 = 10_000_000;
+
+    pub const DUES: u32 = 20_000_000;
+
+    // A desk with nothing done yet stands at its free minute.
+    pub fn at(free: u32) -> Desk
+        ensures { λ r. ⌜ r ≡ deskAt free ⌝ }
+    {
+        Desk {
+            minute: free,
+            worst: 0,
+        }
+    }
+
+    // The desk after a row: it starts at the later of the minute and its release, ends its length later, and is late by end minus due.
+    pub fn take(self, release: u32, length: u32, due: u32) -> Desk
+        requires { ⌜ (self .minute ≤ 1000000000) × (release ≤ 1000000000) × (length ≤ 1000000000) × (due ≤ 2147483647) ⌝ }
+        ensures { λ r. ⌜ r ≡ deskAfter self (record { release = release; length = length; due = due }) ⌝ }
+    {
+        let end = later(self.minute, release) + length;
+        let late = end + 2_147_483_648 - due;
+        Desk {
+            minute: end,
+            worst: later(self.worst, late),
+        }
+    }
+}

@@ -1,0 +1,1 @@
+// The scheduling theory has no code: its definitions and proofs stand in specs/.
