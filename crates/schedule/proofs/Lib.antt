@@ -1,1 +1,14 @@
-
+pub mod Tests
+pub mod Signed
+pub mod DeskLaws
+pub mod Orders
+pub mod PickLaws
+pub mod JobsOf
+pub mod Beats
+pub mod Front
+pub mod Pareto
+pub mod Search
+pub mod Best
+pub mod Listing
+pub mod Loop
+pub mod Promise

@@ -25,6 +25,11 @@ abbrev pub Rising : List Pair → Type 0
 Rising [] = Unit {0}
 Rising (p ∷ ps) = ((q : Pair) → List·Memᴰ q ps → (p .end < q .end) × (q .late <ℤ p .late)) × Rising ps
 
+-- Every order's worst lateness is a signed 32-bit number.
+abbrev pub Fits32 : (ℕ → Job) → ℕ → List ℕ → Type 0
+Fits32 job t left = (order : List ℕ) → OrderOf left order →
+    (negsuc 2147483647 ≤ℤ pairOf job t order .late) × (pairOf job t order .late ≤ℤ pos 2147483647)
+
 module _ (job : ℕ → Job) (t : ℕ) (left : List ℕ) where
   pub record Promise : Type 0 where
     -- The order for a bound is an order of the rows, keeps the bound, and ends no later than any order that keeps it.
@@ -46,13 +51,12 @@ module _ (job : ℕ → Job) (t : ℕ) (left : List ℕ) where
     -- The order for a listed pair's lateness attains that pair.
     pub attains : (p : Pair) → List·Memᴰ p (plans job t left) → (order : List ℕ) × (orderFor job t left (p .late) ≡ some order) × Attains job t left order p
     -- Asking for ever smaller bounds gives the list, where every lateness is a signed 32-bit number.
-    pub same-list : ((order : List ℕ) → OrderOf left order → (negsuc 2147483647 ≤ℤ pairOf job t order .late) × (pairOf job t order .late ≤ℤ pos 2147483647)) →
-        listByBounds job t left ≡ plans job t left
+    pub same-list : Fits32 job t left → listByBounds job t left ≡ plans job t left
 
 -- The whole of property 3, for rows that agree. (Of no rows at all there is one plan, of the empty order: so at least one row.)
-pub Promised : Type 0
+abbrev pub Promised : Type 0
 Promised = (job : ℕ → Job) (t : ℕ) (left : List ℕ) → Agreeing job left → 0 < length left → Promise job t left
 
 -- Idle plus all lengths equals end minus the minute at the start.
-pub IdleSum : Type 0
+abbrev pub IdleSum : Type 0
 IdleSum = (job : ℕ → Job) (t : ℕ) (order : List ℕ) → t + (idleOf job t order + lengthsOf job order) ≡ endOf job t order

@@ -1,0 +1,105 @@
+-- Picks: which of two rows is ahead, and that the first pick is ahead of every row left over. The steps of a run.
+-- Assumes nothing.
+use Prim.Native.Nat.{ℕ, suc, _≤_, _<_, compare, Ordering, Ordering·lt, Ordering·eq, Ordering·gt}
+use native.Mathlib.Omega.{arith}
+use mathlib.Core.Bool.{Bool, true, false, not, cond}
+use mathlib.Core.Path.{_≡_, refl, sym, subst}
+use mathlib.Core.List.{List, [], _∷_, List·Memᴰ, List·Memᴰ·head, List·Memᴰ·tail, List·Memᴰ·eq-of-singleton, List·Memᴰ·cases-cons}
+use mathlib.Core.Logic.{_⊎_, inl, inr}
+use lib.Dec.{T, ltb, ltb→lt, nltb→le}
+use Rattle.theory.specs.Jobs.{Job, ready, finish}
+use Rattle.schedule.specs.Picks.{ahead, before, leastOf, firstPick, decided, others, runFor}
+use Rattle.schedule.proofs.Tests.{Compared, compared}
+
+module _ (job : ℕ → Job) where
+  -- One step of a run.
+  pub run-step : (n t i : ℕ) (is : List ℕ) → decided job t (i ∷ is) ≡ true →
+      runFor job (suc n) t (i ∷ is) ≡ firstPick job t (i ∷ is) ∷ runFor job n (finish (job (firstPick job t (i ∷ is))) t) (others job t (i ∷ is))
+  unfolding runFor
+  run-step n t i is h = rw (h, runFor)
+
+  pub run-stop : (n t i : ℕ) (is : List ℕ) → decided job t (i ∷ is) ≡ false → runFor job (suc n) t (i ∷ is) ≡ []
+  unfolding runFor
+  run-stop n t i is h = rw (h, runFor)
+
+  -- The pick is one of the rows left over.
+  pub least-mem : (t i : ℕ) (js : List ℕ) → List·Memᴰ (leastOf job t i js) (i ∷ js)
+  unfolding leastOf
+  least-mem t i [] = List·Memᴰ·head refl
+  least-mem t i (j ∷ js) = go (before job t j i) (least-mem t j js) (least-mem t i js)
+    where
+      weaken : {a b c : ℕ} {l : List ℕ} → List·Memᴰ a (b ∷ l) → List·Memᴰ a (b ∷ c ∷ l)
+      weaken (List·Memᴰ·head e) = List·Memᴰ·head e
+      weaken (List·Memᴰ·tail m) = List·Memᴰ·tail (List·Memᴰ·tail m)
+
+      go : (b : Bool) → List·Memᴰ (leastOf job t j js) (j ∷ js) → List·Memᴰ (leastOf job t i js) (i ∷ js) → List·Memᴰ (leastOf job t (cond b j i) js) (i ∷ j ∷ js)
+      go true m k = List·Memᴰ·tail m
+      go false m k = weaken k
+
+  -- Row i is picked before row j, or is j.
+  pub record Ahead (t i j : ℕ) : Type 0 where
+    pub by-ready : ready (job i) t ≤ ready (job j) t
+    pub by-due : ready (job j) t ≤ ready (job i) t → job i .due ≤ job j .due
+    pub by-row : ready (job j) t ≤ ready (job i) t → job j .due ≤ job i .due → i ≤ j
+
+  pub ahead-refl : (t i : ℕ) → Ahead t i i
+  ahead-refl t i = record { by-ready = omega arith; by-due = λ h. omega arith; by-row = λ h g. omega arith }
+
+  pub ahead-trans : {t i j k : ℕ} → Ahead t i j → Ahead t j k → Ahead t i k
+  ahead-trans a b = record {
+    by-ready = omega (arith, a .by-ready, b .by-ready);
+    by-due = λ h. omega (arith, a .by-due (omega (arith, b .by-ready)), b .by-due (omega (arith, a .by-ready)));
+    by-row = λ h g. omega (arith, a .by-row (omega (arith, b .by-ready)) (omega (arith, b .by-due (omega (arith, a .by-ready)))), b .by-row (omega (arith, a .by-ready)) (omega (arith, a .by-due (omega (arith, b .by-ready)))));
+  }
+
+  -- The test says which of two rows is ahead.
+  pub before-ahead : (t i j : ℕ) → T (before job t i j) → Ahead t i j
+  unfolding before
+  before-ahead t i j = go (compare (ready (job i) t) (ready (job j) t)) (compare (job i .due) (job j .due))
+      (compared (ready (job i) t) (ready (job j) t)) (compared (job i .due) (job j .due))
+    where
+      go : (o p : Ordering) → Compared (ready (job i) t) (ready (job j) t) o → Compared (job i .due) (job j .due) p → T (ahead o (ahead p (ltb i j))) → Ahead t i j
+      go Ordering·lt p c d h = record { by-ready = omega arith; by-due = λ g. omega arith; by-row = λ g f. omega arith }
+      go Ordering·eq Ordering·lt c d h = record { by-ready = omega arith; by-due = λ g. omega arith; by-row = λ g f. omega arith }
+      go Ordering·eq Ordering·eq c d h =
+          let l : i < j = ltb→lt i j h in
+          record { by-ready = omega arith; by-due = λ g. omega arith; by-row = λ g f. omega arith }
+      go Ordering·eq Ordering·gt c d h = absurd h
+      go Ordering·gt p c d h = absurd h
+
+  pub not-before-ahead : (t i j : ℕ) → T (not (before job t i j)) → Ahead t j i
+  unfolding before
+  not-before-ahead t i j = go (compare (ready (job i) t) (ready (job j) t)) (compare (job i .due) (job j .due))
+      (compared (ready (job i) t) (ready (job j) t)) (compared (job i .due) (job j .due))
+    where
+      go : (o p : Ordering) → Compared (ready (job i) t) (ready (job j) t) o → Compared (job i .due) (job j .due) p → T (not (ahead o (ahead p (ltb i j)))) → Ahead t j i
+      go Ordering·lt p c d h = absurd h
+      go Ordering·eq Ordering·lt c d h = absurd h
+      go Ordering·eq Ordering·eq c d h =
+          let l : j ≤ i = nltb→le i j h in
+          record { by-ready = omega arith; by-due = λ g. omega arith; by-row = λ g f. omega arith }
+      go Ordering·eq Ordering·gt c d h = record { by-ready = omega arith; by-due = λ g. omega arith; by-row = λ g f. omega arith }
+      go Ordering·gt p c d h = record { by-ready = omega arith; by-due = λ g. omega arith; by-row = λ g f. omega arith }
+
+  -- The pick is ahead of every row left over.
+  same-ahead : {t i k : ℕ} → k ≡ i → Ahead t i k
+  same-ahead {t} {i} e = subst (λ k. Ahead t i k) (sym e) (ahead-refl t i)
+
+  pub least-ahead : (t i : ℕ) (js : List ℕ) {k : ℕ} → List·Memᴰ k (i ∷ js) → Ahead t (leastOf job t i js) k
+  unfolding leastOf
+  least-ahead t i [] m = same-ahead (List·Memᴰ·eq-of-singleton m)
+  least-ahead t i (j ∷ js) {k} m =
+      go (before job t j i) (before-ahead t j i) (not-before-ahead t j i) (λ k′ m′. least-ahead t j js {k = k′} m′) (λ k′ m′. least-ahead t i js {k = k′} m′)
+      (List·Memᴰ·cases-cons m)
+    where
+      go : (b : Bool) → (T b → Ahead t j i) → (T (not b) → Ahead t i j) →
+          ((k : ℕ) → List·Memᴰ k (j ∷ js) → Ahead t (leastOf job t j js) k) → ((k : ℕ) → List·Memᴰ k (i ∷ js) → Ahead t (leastOf job t i js) k) →
+          (k ≡ i) ⊎ List·Memᴰ k (j ∷ js) → Ahead t (leastOf job t (cond b j i) js) k
+      go true first other lj li (inl e) = ahead-trans (lj j (List·Memᴰ·head refl)) (ahead-trans (first tt) (same-ahead e))
+      go true first other lj li (inr m) = lj k m
+      go false first other lj li (inl e) = li k (List·Memᴰ·head e)
+      go false first other lj li (inr m) = later (List·Memᴰ·cases-cons m)
+        where
+          later : (k ≡ j) ⊎ List·Memᴰ k js → Ahead t (leastOf job t i js) k
+          later (inl e) = ahead-trans (li i (List·Memᴰ·head refl)) (ahead-trans (other tt) (same-ahead e))
+          later (inr m′) = li k (List·Memᴰ·tail m′)
