@@ -12,3 +12,4 @@ pub mod Best
 pub mod Listing
 pub mod Loop
 pub mod Promise
+pub mod Ranges

@@ -129,7 +129,7 @@ same-orders (suc n) left (i ∷ r) l k s = orders-make n left i r m (same-orders
     rest : Same r (without i left)
     rest k = omega (arith, s k, count-without i left m k)
 
-perm-count : {o left : List ℕ} → List·Permᴰ o left → (length o ≡ length left) × Same o left
+pub perm-count : {o left : List ℕ} → List·Permᴰ o left → (length o ≡ length left) × Same o left
 unfolding count
 perm-count List·Permᴰ·nil = (refl, λ k. refl)
 perm-count (List·Permᴰ·cons e p) = let r = perm-count p in (ap suc (r .0), λ k. omega (arith, ap (λ (x : ℕ). one (eqb k x)) e, r .1 k))
