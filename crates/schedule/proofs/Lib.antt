@@ -2,6 +2,7 @@ pub mod Tests
 pub mod Signed
 pub mod DeskLaws
 pub mod Orders
+pub mod Numbers
 pub mod PickLaws
 pub mod JobsOf
 pub mod Beats

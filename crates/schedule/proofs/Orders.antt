@@ -190,9 +190,3 @@ takes-orders zero [] left l h = unfold ordersOf in List·Memᴰ·head refl
 takes-orders zero (i ∷ is) left l h = let z : ⊥ = omega arith in absurd z
 takes-orders (suc n) [] left l h = let z : ⊥ = omega arith in absurd z
 takes-orders (suc n) (i ∷ is) left l h = orders-make n left i is (h .0) (takes-orders n is (without i left) (omega arith) (h .1))
-
--- The numbers of all rows.
-pub length-count : (i n : ℕ) → length (countFrom i n) ≡ n
-unfolding countFrom
-length-count i zero = refl
-length-count i (suc n) = ap suc (length-count (suc i) n)
