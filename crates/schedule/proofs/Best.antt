@@ -3,7 +3,7 @@
 use Prim.Native.Nat.{ℕ, zero, suc, _+_, _≤_, _<_}
 use native.Mathlib.Omega.{arith}
 use mathlib.Core.Path.{_≡_, refl, sym, ap, _∙_, subst}
-use mathlib.Core.List.{List, [], _∷_, List·Memᴰ, List·Memᴰ·eq-of-singleton, Memᴰ·map, Memᴰ·of-map}
+use mathlib.Core.List.{List, [], _∷_, List·Memᴰ, Memᴰ·map, Memᴰ·of-map}
 use mathlib.Core.Option.{Option, none, some}
 use lib.Dec.{T}
 use lib.ListN.{length, length-map}
@@ -16,7 +16,7 @@ use Rattle.schedule.specs.Desk.{Pair, endOf, pairOf, keeps}
 use Rattle.schedule.specs.Picks.{orderFor}
 use Rattle.schedule.specs.Plans.{ordersOf, attained}
 use Rattle.schedule.specs.Promise.{Agreeing}
-use Rattle.schedule.proofs.Orders.{orders-cases, takes-orders}
+use Rattle.schedule.proofs.Orders.{orders-length, takes-orders}
 use Rattle.schedule.proofs.DeskLaws.{keeps-late, late-keeps}
 use Rattle.schedule.proofs.JobsOf.{jobs, jobs-end, on-jobs, jobs-order, keeps-kept, kept-keeps}
 use Rattle.schedule.proofs.Signed.{up, down, _≼_}
@@ -30,12 +30,6 @@ pub record Plannable (job : ℕ → Job) (t : ℕ) (left : List ℕ) : Type 0 wh
 -- The order is one of those that are tried.
 abbrev pub Tried : List ℕ → List ℕ → Type 0
 Tried left order = List·Memᴰ order (ordersOf (length left) left)
-
-pub orders-length : (n : ℕ) (left o : List ℕ) → List·Memᴰ o (ordersOf n left) → length o ≡ n
-orders-length zero left o m = unfold ordersOf in ap {B = ℕ} length (List·Memᴰ·eq-of-singleton m)
-orders-length (suc n) left o m =
-    let c = orders-cases n left o m in
-    ap {B = ℕ} length (c .4) ∙ ap suc (orders-length n _ (c .1) (c .3))
 
 -- What the order for a bound is.
 pub record BestFor (job : ℕ → Job) (t : ℕ) (left : List ℕ) (y : ℤ) (order : List ℕ) : Type 0 where

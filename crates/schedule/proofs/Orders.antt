@@ -98,6 +98,12 @@ orders-cases n left o m =
     let b = map-cases (λ order. a .0 ∷ order) (ordersOf n (without (a .0) left)) o (a .2) in
     (a .0, b .0, a .1, b .1, b .2)
 
+pub orders-length : (n : ℕ) (left o : List ℕ) → List·Memᴰ o (ordersOf n left) → length o ≡ n
+orders-length zero left o m = unfold ordersOf in ap {B = ℕ} length (List·Memᴰ·eq-of-singleton m)
+orders-length (suc n) left o m =
+    let c = orders-cases n left o m in
+    ap {B = ℕ} length (c .4) ∙ ap suc (orders-length n _ (c .1) (c .3))
+
 -- Each order holds what the list holds,
 pub orders-same : (n : ℕ) (left o : List ℕ) → length left ≡ n → List·Memᴰ o (ordersOf n left) → Same o left
 unfolding count ordersOf
