@@ -1,5 +1,6 @@
 pub mod Tests
 pub mod Signed
+pub mod Words
 pub mod DeskLaws
 pub mod Orders
 pub mod Numbers

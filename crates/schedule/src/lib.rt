@@ -2,7 +2,7 @@
 ghost use mathlib.Core.Path.{_≡_};
 ghost use Prim.Native.Nat.{_≤_, max};
 ghost use Rattle.theory.specs.Jobs.{Job};
-ghost use Rattle.schedule.specs.Offset.{deskAt, deskAfter};
+ghost use Rattle.schedule.specs.Offset.{raised, lowered, deskAt, deskAfter};
 
 // A row of the table: one transcript.
 pub struct Row {
@@ -56,4 +56,18 @@ impl Desk {
             worst: later(self.worst, late),
         }
     }
+}
+
+// A signed number raised by 2^31: signed numbers compare as what they are raised to.
+pub fn raise(y: i32) -> u32
+    ensures { λ r. ⌜ r ≡ raised y ⌝ }
+{
+    ((y as i64) + 2_147_483_648) as u32
+}
+
+// The signed number that is raised so.
+pub fn lower(late: u32) -> i32
+    ensures { λ r. ⌜ r ≡ lowered late ⌝ }
+{
+    ((late as i64) - 2_147_483_648) as i32
 }

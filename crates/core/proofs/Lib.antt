@@ -1,0 +1,10 @@
+pub mod Marked
+pub mod Picks
+pub mod Runs
+pub mod Steps
+pub mod Signs
+pub mod Blocks
+pub mod Planning
+pub mod Orders
+pub mod Following
+pub mod Lists

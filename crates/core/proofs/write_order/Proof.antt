@@ -1,0 +1,74 @@
+use borrow.Author.Needs.{needs}
+use Prim.Native.Nat.{ℕ, _≤_, _-_}
+use mathlib.Core.Path.{_≡_, refl, ap, _∙_}
+use mathlib.Core.List.{List, _++_}
+use native.Mathlib.Omega.{arith}
+use lib.ListN.{length, take, drop, set, getD}
+use Rattle.core.proofs.Orders.{copy-more}
+use Rattle.core.proofs.write_order.Statement.{statement}
+use Rattle.core.proofs.write_order.Tie as tie
+use Rattle.core.proofs.write_order.Reads as reads
+use Rattle.core.proofs.write_order.Lts as lts
+
+abbrev Inv-loop : tie.InvT-loop
+Inv-loop order k out₀ i₀ out i = (i ≤ k) × (length out ≡ length out₀) × (out ≡ take i order ++ drop i out₀)
+
+abbrev μ-loop : tie.MeasureT-loop
+μ-loop order k out₀ i₀ out i = k - i
+
+loop-holds : tie.Need-loop-holds Inv-loop μ-loop
+loop-holds c = (search needs, refl, refl)
+
+mul-out : tie.Need-mul-out Inv-loop μ-loop
+mul-out c = search needs
+
+element-copy-out-out : tie.Need-element-copy-out-out Inv-loop μ-loop
+element-copy-out-out c = search needs
+
+mul-out-2 : tie.Need-mul-out-2 Inv-loop μ-loop
+mul-out-2 c = search needs
+
+slice-write-out : tie.Need-slice-write-out Inv-loop μ-loop
+slice-write-out c = search needs
+
+add-i : tie.Need-add-i Inv-loop μ-loop
+add-i c = search needs
+
+loop-less : tie.Need-loop-less Inv-loop μ-loop
+loop-less c = search needs
+
+loop-again : tie.Need-loop-again Inv-loop μ-loop
+loop-again c =
+    let a = c .before .before .before .args in
+    let l = c .before .before .loop in (
+      search needs,
+      search needs,
+      ap (λ (x : List ℕ). set x (l .i) (getD (a .order .now) (l .i) 0)) (l .inv .2) ∙ copy-more (l .i) (a .order .now) (a .out .now) (omega arith) (omega arith),
+    )
+
+same-length : tie.Need-same-length Inv-loop μ-loop
+same-length c = search needs
+
+returns : tie.Need-returns Inv-loop μ-loop
+returns c =
+    let a = c .before .before .args in
+    let l = c .before .loop in
+    let e : l .i ≡ a .k = omega arith in
+    l .inv .2 ∙ ap (λ (j : ℕ). take j (a .order .now) ++ drop j (a .out .now)) e
+
+pub write-order-spec : {M : Type 1} → statement M
+write-order-spec =
+    tie.close
+    (tie.spec
+    Inv-loop
+    μ-loop
+    loop-holds
+    mul-out
+    element-copy-out-out
+    mul-out-2
+    slice-write-out
+    add-i
+    loop-less
+    loop-again
+    same-length
+    returns)

@@ -1,0 +1,77 @@
+-- What the core answers: the order for a bound with its pair, and the list of plans. Latenesses are raised by 2³¹.
+-- Rests on: Columns, Taking, and the schedule's order for a bound and plans.
+use Prim.Native.Nat.{ℕ, zero, suc, _+_, _≤_}
+use mathlib.Core.Bool.{true, cond}
+use mathlib.Core.Path.{_≡_}
+use mathlib.Core.List.{List, _++_, map}
+use mathlib.Core.Option.{Option, none, some}
+use lib.Dec.{eqb}
+use lib.ListN.{length, getD, set, take, drop}
+use Rattle.theory.specs.Jobs.{Job}
+use Rattle.schedule.specs.Rows.{countFrom}
+use Rattle.schedule.specs.Desk.{Pair, endOf, pairOf}
+use Rattle.schedule.specs.Picks.{orderFor}
+use Rattle.schedule.specs.Plans.{plans}
+use Rattle.schedule.specs.Offset.{raised, lowered}
+use Rattle.core.specs.declared.Plan.{Plan}
+use Rattle.core.specs.declared.Front.{Front}
+use Rattle.core.specs.declared.Planned.{Planned}
+use Rattle.core.specs.declared.Planned.the-variants.{Kept, Unkept}
+use Rattle.core.specs.Taking.{startAt, planOf}
+
+-- A raised lateness is at least 1, at most the bound, and at most 17,680,000 raised.
+abbrev pub Bounded : ℕ → Planned → Type 0
+Bounded bound Unkept = Unit {0}
+Bounded bound (Kept end late) = (1 ≤ late) × (late ≤ bound) × (late ≤ 2165163648)
+
+-- The place of the next pair on the list: that of the last pair where both have one end, otherwise the place after it.
+unfoldable pub placeOf : List ℕ → ℕ → ℕ → ℕ
+placeOf ends zero end = 0
+placeOf ends (suc k) end = cond (eqb (getD ends k 0) end) k (suc k)
+
+-- The list with one pair more.
+abbrev pub putPair : Front → ℕ → ℕ → Front
+putPair front end late =
+    let k = placeOf (front .ends) (front .count) end in
+    record { count = k + 1; ends = set (front .ends) k end; lates = set (front .lates) k late }
+
+-- The buffer b with an order written to its front.
+unfoldable pub writtenOf : Option (List ℕ) → List ℕ → List ℕ
+writtenOf none b = b
+writtenOf (some order) b = order ++ drop (length order) b
+
+module _ (job : ℕ → Job) where
+  -- The answer for an order: its own end and worst lateness.
+  unfoldable pub plannedOf : ℕ → Option (List ℕ) → Planned
+  plannedOf free none = Unkept
+  plannedOf free (some order) = Kept (endOf job free order) (raised (pairOf job free order .late))
+
+  -- The order for a raised bound, of the rows 1 to n.
+  abbrev pub orderOf : ℕ → ℕ → ℕ → Option (List ℕ)
+  orderOf n free bound = orderFor job free (countFrom 1 n) (lowered bound)
+
+  -- The whole outcome of the search for the order for a bound: the plan, and what its state is within.
+  pub record Searched (n free bound : ℕ) (r : Plan) : Type 0 where
+    pub plan : r ≡ planOf job (startAt free) (startAt free) (orderOf n free bound)
+    pub count : r .state .count ≤ n
+    pub kept : r .kept ≡ true → (r .state .count ≡ n) × (1 ≤ r .state .desk .worst) × (r .state .desk .worst ≤ bound) × (r .state .desk .worst ≤ 2165163648)
+
+  -- The whole outcome of the call for an order's pair.
+  pub record Paired (n free bound : ℕ) (answer : Planned) : Type 0 where
+    pub answered : answer ≡ plannedOf free (orderOf n free bound)
+    pub bounded : Bounded bound answer
+
+  -- The whole outcome of the call for an order: the answer, and the buffer b as it is then.
+  pub record Ordered (n free bound : ℕ) (b : List ℕ) (answer : Planned) (after : List ℕ) : Type 0 where
+    pub answered : answer ≡ plannedOf free (orderOf n free bound)
+    pub buffer : after ≡ writtenOf (orderOf n free bound) b
+    pub bounded : Bounded bound answer
+
+  -- The whole outcome of the call for the list: how many plans, and the end and the raised lateness of each.
+  pub record Listed (n free : ℕ) (r : Front) : Type 0 where
+    pub counted : r .count ≡ length (plans job free (countFrom 1 n))
+    pub few : r .count ≤ n
+    pub ends : take (r .count) (r .ends) ≡ map (λ p. p .end) (plans job free (countFrom 1 n))
+    pub lates : take (r .count) (r .lates) ≡ map (λ p. raised (p .late)) (plans job free (countFrom 1 n))
+    pub end-places : length (r .ends) ≡ 256
+    pub late-places : length (r .lates) ≡ 256
