@@ -46,3 +46,7 @@ lowered-is n h = ap (λ (z : ℤ). z -ℤ pos 2147483648) (toZ-pos w64 n (omega 
 
 pub lowered-fits : (n : ℕ) → n < 4294967296 → mag (lowered n) < 2147483648
 lowered-fits n h = sub-cases n 2147483648 (λ z. mag z < 2147483648) (λ k e. omega arith) (λ k e. omega arith)
+
+-- A lowered number as a 32-bit word is itself.
+pub lowered-word : (n : ℕ) (z : ℤ) → n < 4294967296 → z ≡ lowered n → toZ w32 (ofZ w32 z) ≡ lowered n
+lowered-word n z h e = ap (λ (y : ℤ). toZ w32 (ofZ w32 y)) e ∙ toZ-ofZ w32 (lowered n) (record { sfits = lowered-fits n h })
