@@ -142,6 +142,16 @@ perm-count (List·Permᴰ·cons e p) = let r = perm-count p in (ap suc (r .0), �
 perm-count (List·Permᴰ·swap e f) = (refl, λ k. omega (arith, ap (λ (x : ℕ). one (eqb k x)) e, ap (λ (x : ℕ). one (eqb k x)) f))
 perm-count (List·Permᴰ·trans p q) = let r = perm-count p in let s = perm-count q in (r .0 ∙ s .0, λ k. r .1 k ∙ s .1 k)
 
+-- What holds of each row of a list holds of each row of an order of it.
+pub perm-all : (P : ℕ → Type 0) {o left : List ℕ} → List·Permᴰ o left → ((i : ℕ) → List·Memᴰ i left → P i) → (i : ℕ) → List·Memᴰ i o → P i
+perm-all P List·Permᴰ·nil h i m = h i m
+perm-all P (List·Permᴰ·cons e p) h i (List·Memᴰ·head q) = h i (List·Memᴰ·head (q ∙ e))
+perm-all P (List·Permᴰ·cons e p) h i (List·Memᴰ·tail m) = perm-all P p (λ j n. h j (List·Memᴰ·tail n)) i m
+perm-all P (List·Permᴰ·swap e f) h i (List·Memᴰ·head q) = h i (List·Memᴰ·tail (List·Memᴰ·head (q ∙ e)))
+perm-all P (List·Permᴰ·swap e f) h i (List·Memᴰ·tail (List·Memᴰ·head q)) = h i (List·Memᴰ·head (q ∙ f))
+perm-all P (List·Permᴰ·swap e f) h i (List·Memᴰ·tail (List·Memᴰ·tail m)) = h i (List·Memᴰ·tail (List·Memᴰ·tail m))
+perm-all P (List·Permᴰ·trans p q) h i m = perm-all P p (perm-all P q h) i m
+
 pub perm-orders : (n : ℕ) (left o : List ℕ) → length left ≡ n → List·Permᴰ o left → List·Memᴰ o (ordersOf n left)
 perm-orders n left o l p = let r = perm-count p in same-orders n left o l (r .0 ∙ l) (r .1)
 

@@ -3,8 +3,8 @@
 use Prim.Native.Nat.{ℕ, suc, _+_, _*_, _≤_, _<_}
 use native.Mathlib.Omega.{arith}
 use native.Mathlib.Nat.{mul-suc, mul-le-mul-left}
-use mathlib.Core.List.{List, [], _∷_, List·Permᴰ, List·Permᴰ·nil, List·Permᴰ·cons, List·Permᴰ·swap, List·Permᴰ·trans, List·Memᴰ, List·Memᴰ·head, List·Memᴰ·tail}
-use mathlib.Core.Path.{_≡_, refl, _∙_}
+use mathlib.Core.List.{List, [], _∷_, List·Memᴰ, List·Memᴰ·head, List·Memᴰ·tail}
+use mathlib.Core.Path.{refl}
 use lib.Dec.{T}
 use lib.ListN.{length}
 use lib.IntN.{ℤ, pos, negsuc, subℕ}
@@ -16,17 +16,7 @@ use Rattle.schedule.specs.Ranges.{Ranged, InRange}
 use Rattle.schedule.proofs.Signed.{up, down, _≼_, leZ→, →leZ, sub-level}
 use Rattle.schedule.proofs.Tests.{both, parts}
 use Rattle.schedule.proofs.DeskLaws.{keeps-late, late-keeps}
-use Rattle.schedule.proofs.Orders.{perm-count}
-
--- What holds of each row of a list holds of each row of an order of it.
-perm-all : (P : ℕ → Type 0) {o left : List ℕ} → List·Permᴰ o left → ((i : ℕ) → List·Memᴰ i left → P i) → (i : ℕ) → List·Memᴰ i o → P i
-perm-all P List·Permᴰ·nil h i m = h i m
-perm-all P (List·Permᴰ·cons e p) h i (List·Memᴰ·head q) = h i (List·Memᴰ·head (q ∙ e))
-perm-all P (List·Permᴰ·cons e p) h i (List·Memᴰ·tail m) = perm-all P p (λ j n. h j (List·Memᴰ·tail n)) i m
-perm-all P (List·Permᴰ·swap e f) h i (List·Memᴰ·head q) = h i (List·Memᴰ·tail (List·Memᴰ·head (q ∙ e)))
-perm-all P (List·Permᴰ·swap e f) h i (List·Memᴰ·tail (List·Memᴰ·head q)) = h i (List·Memᴰ·head (q ∙ f))
-perm-all P (List·Permᴰ·swap e f) h i (List·Memᴰ·tail (List·Memᴰ·tail m)) = h i (List·Memᴰ·tail (List·Memᴰ·tail m))
-perm-all P (List·Permᴰ·trans p q) h i m = perm-all P p (perm-all P q h) i m
+use Rattle.schedule.proofs.Orders.{perm-count, perm-all}
 
 module _ (top long n : ℕ) (job : ℕ → Job) where
   -- The minute after k rows.
