@@ -13,12 +13,13 @@ use Rattle.theory.specs.Jobs.{Job, finish}
 use Rattle.schedule.specs.declared.Desk.{Desk}
 use Rattle.schedule.specs.Rows.{without, withoutAll}
 use Rattle.schedule.specs.Desk.{endOf, keeps}
-use Rattle.schedule.specs.Picks.{firstPick, others, secondPick, decided, run, block, blockOne, blockTwo}
+use Rattle.schedule.specs.Picks.{firstPick, secondPick, decided, run, block, blockOne, blockTwo}
 use Rattle.schedule.specs.Offset.{lowered}
 use Rattle.core.specs.declared.State.{State}
 use Rattle.core.specs.Columns.{Limits, left}
 use Rattle.core.specs.Taking.{Going, After, takeRow, takeRows, deskThrough, blockFor}
-use Rattle.core.proofs.Marked.{mem-without, left-row}
+use Rattle.schedule.proofs.Orders.{mem-without}
+use Rattle.core.proofs.Marked.{left-row}
 use Rattle.core.proofs.Picks.{pick-mem, decided-is}
 use Rattle.core.proofs.Steps.{runOf, pick-some, marked, first-pick, second-pick}
 use Rattle.core.proofs.Signs.{through-minute, through-within}
@@ -103,7 +104,7 @@ module _ (job : ℕ → Job) where
 
         pub second-mem : List·Memᴰ j rest
         second-mem =
-            mem-without j i rest
+            mem-without i rest
             (subst (λ (l : List ℕ). List·Memᴰ j l) (marked job n small s g i first-mem) (pick-some job now j (left (set (s .taken) i true) n) next-picks second-some))
 
     -- The block that is taken.

@@ -1,41 +1,33 @@
 -- The rows of a posting, followed one after another.
 -- Assumes nothing.
-use Prim.Native.Nat.{ℕ, zero, suc, _+_, _*_, _≤_, _<_}
+use Prim.Native.Nat.{ℕ, _+_, _*_, _≤_, _<_}
 use native.Mathlib.Omega.{arith}
 use native.Mathlib.Numerals.{add-one}
-use native.Mathlib.Nat.{not-suc-le-zero, le-of-suc-le-suc}
-use mathlib.Core.Path.{_≡_, refl, sym, ap, _∙_}
-use mathlib.Core.List.{List, [], _∷_}
+use mathlib.Core.Path.{_≡_, sym, ap, _∙_}
+use mathlib.Core.List.{List}
 use lib.ListN.{length, getD, drop}
+use lib.Seq.{drop-cons, drop-length}
 use Rattle.theory.specs.Jobs.{Job, finish}
 use Rattle.schedule.specs.declared.Desk.{Desk}
 use Rattle.schedule.specs.Offset.{deskAt, deskAfter}
 use Rattle.core.specs.Columns.{Limits}
 use Rattle.core.specs.Taking.{deskThrough}
-
--- What is left of a list from a place on.
-drop-next : (k : ℕ) (xs : List ℕ) → k < length xs → drop k xs ≡ getD xs k 0 ∷ drop (suc k) xs
-drop-next k [] h = absurd (not-suc-le-zero h)
-drop-next zero (x ∷ xs) h = refl
-drop-next (suc k) (x ∷ xs) h = drop-next k xs (le-of-suc-le-suc h)
-
-drop-all : (k : ℕ) (xs : List ℕ) → length xs ≤ k → drop k xs ≡ []
-drop-all zero [] h = refl
-drop-all zero (x ∷ xs) h = absurd (not-suc-le-zero h)
-drop-all (suc k) [] h = refl
-drop-all (suc k) (x ∷ xs) h = drop-all k xs (le-of-suc-le-suc h)
+use Rattle.core.specs.Answers.{Followed}
+use Rattle.core.proofs.Signs.{through-late, followed-end, followed-raised}
 
 module _ (job : ℕ → Job) (free : ℕ) (posting : List ℕ) where
   -- What the loop keeps: from here the rest of the posting leads where all of it leads from the start.
   pub record Following (desk : Desk) (k : ℕ) : Type 0 where
     pub past : k ≤ length posting
     pub minutes : desk .minute ≤ 10000000 + 30000 * k
+    pub lates : desk .worst ≤ 2157483648 + 30000 * k
     pub same : deskThrough job desk (drop k posting) ≡ deskThrough job (deskAt free) posting
 
   pub following-first : free ≤ 10000000 → (desk : Desk) → desk ≡ deskAt free → Following desk 0
   following-first h desk e = record {
     past = omega arith;
     minutes = omega (arith, ap (λ (d : Desk). d .minute) e);
+    lates = omega (arith, ap (λ (d : Desk). d .worst) e);
     same = ap (λ (d : Desk). deskThrough job d posting) e;
   }
 
@@ -56,11 +48,25 @@ module _ (job : ℕ → Job) (free : ℕ) (posting : List ℕ) where
         record {
           past = omega arith;
           minutes = omega (arith, f .minutes, ap (λ (d : Desk). d .minute) e, limits .releases i, limits .lengths i);
+          lates = omega (arith, f .minutes, f .lates, ap (λ (d : Desk). d .worst) e, limits .releases i, limits .lengths i);
           same =
               (λ x. deskThrough job (e x) (drop (add-one k x) posting)) ∙
-              (ap (deskThrough job desk) (sym (drop-next k posting h)) ∙ f .same);
+              (ap (deskThrough job desk) (sym (drop-cons posting k 0 h)) ∙ f .same);
         }
 
-    pub following-last : length posting ≤ k → desk ≡ deskThrough job (deskAt free) posting
+    followed : length posting ≤ k → desk ≡ deskThrough job (deskAt free) posting
     unfolding deskThrough
-    following-last h = ap (deskThrough job desk) (sym (drop-all k posting h)) ∙ f .same
+    followed h =
+        let e : k ≡ length posting = omega (arith, f .past) in
+        ap (deskThrough job desk) (sym (ap (λ (m : ℕ). drop m posting) e ∙ drop-length posting)) ∙ f .same
+
+    pub following-last : length posting ≤ k → length posting ≤ 256 → Followed job free posting desk
+    following-last h few =
+        let e = followed h in
+        record {
+          desk = e;
+          end = ap (λ (d : Desk). d .minute) e ∙ followed-end job limits free posting;
+          late = λ some. ap (λ (d : Desk). d .worst) e ∙ followed-raised job limits free posting some;
+          low = λ some. omega (arith, ap (λ (d : Desk). d .worst) e, through-late job limits (deskAt free) posting some);
+          high = omega (arith, f .lates, f .past);
+        }

@@ -5,28 +5,13 @@ use native.Mathlib.Omega.{arith}
 use native.Mathlib.Numerals.{add-one}
 use mathlib.Core.Bool.{Bool, true, false, cond}
 use mathlib.Core.Path.{_≡_, refl, sym, ap, _∙_}
-use mathlib.Core.List.{List, [], _∷_, List·Memᴰ, List·Memᴰ·head, List·Memᴰ·tail, List·Memᴰ·not-nil, List·Memᴰ·cases-cons}
+use mathlib.Core.List.{List, [], _∷_, List·Memᴰ, List·Memᴰ·not-nil, List·Memᴰ·cases-cons}
 use mathlib.Core.Logic.{_⊎_, inl, inr}
-use lib.Dec.{eqb}
 use lib.ListN.{length, getD, set}
 use lib.Seq.{getD-set-same, getD-set-other}
 use borrow.Author.Tests.{eq-eqb, ne-eqb}
 use Rattle.schedule.specs.Rows.{without}
 use Rattle.core.specs.Columns.{leftFrom, left}
-
--- What is left of rows is among them.
-pub mem-without : (k i : ℕ) (js : List ℕ) → List·Memᴰ k (without i js) → List·Memᴰ k js
-unfolding without
-mem-without k i [] m = m
-mem-without k i (j ∷ js) m = go (eqb i j) m (mem-without k i js)
-  where
-    go : (b : Bool) → List·Memᴰ k (cond b js (j ∷ without i js)) → (List·Memᴰ k (without i js) → List·Memᴰ k js) → List·Memᴰ k (j ∷ js)
-    go true m f = List·Memᴰ·tail m
-    go false m f = cases (List·Memᴰ·cases-cons m)
-      where
-        cases : (k ≡ j) ⊎ List·Memᴰ k (without i js) → List·Memᴰ k (j ∷ js)
-        cases (inl e) = List·Memᴰ·head e
-        cases (inr n) = List·Memᴰ·tail (f n)
 
 -- What is known of a row that is left over.
 pub record Free (taken : List Bool) (i m k : ℕ) : Type 0 where

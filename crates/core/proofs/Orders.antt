@@ -16,7 +16,6 @@ use Rattle.schedule.specs.Desk.{endOf, pairOf}
 use Rattle.schedule.specs.Offset.{raised, deskAt}
 use Rattle.core.specs.declared.State.{State}
 use Rattle.core.specs.declared.Plan.{Plan}
-use Rattle.core.specs.declared.Planned.{Planned}
 use Rattle.core.specs.declared.Planned.the-variants.{Kept, Unkept}
 use Rattle.core.specs.Columns.{Limits}
 use Rattle.core.specs.Taking.{startAt, takeRow, takeRows, deskThrough, planOf}

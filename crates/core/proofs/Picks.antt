@@ -1,23 +1,23 @@
 -- The picks: one row against another, and the scan of the rows one by one with the best row so far.
 -- Assumes nothing.
-use Prim.Native.Nat.{ℕ, suc, _+_, _-_, _≤_, _<_, compare, Ordering, Ordering·lt, Ordering·eq, Ordering·gt}
+use Prim.Native.Nat.{ℕ, suc, _+_, _-_, _≤_, _<_, max, compare, Ordering, Ordering·lt, Ordering·eq, Ordering·gt}
 use native.Mathlib.Omega.{arith}
 use mathlib.Core.Bool.{Bool, true, false, cond, _||_}
-use mathlib.Core.Path.{_≡_, refl, sym, ap, _∙_}
+use mathlib.Core.Path.{_≡_, refl, sym, ap, _∙_, subst}
 use mathlib.Core.List.{List, [], _∷_, List·Memᴰ, List·Memᴰ·not-nil}
 use lib.Dec.{ltb, leb, eqb}
 use lib.ListN.{length, getD, set}
 use lib.Seq.{getD-set-same, getD-set-other}
-use borrow.Author.Tests.{eq-eqb, ne-eqb, eqb-true, le-leb, lt-leb}
+use borrow.Author.Tests.{eq-eqb, ne-eqb, eqb-true, lt-ltb, le-ltb, le-leb, lt-leb}
 use Rattle.theory.specs.Jobs.{Job, ready}
 use Rattle.schedule.specs.Rows.{without}
 use Rattle.schedule.specs.Picks.{ahead, before, leastOf, firstPick, others, secondPick, decided}
 use Rattle.schedule.proofs.Tests.{Compared, compared}
 use Rattle.schedule.proofs.PickLaws.{least-mem}
-use Rattle.schedule.proofs.Orders.{length-without}
-use Rattle.core.specs.Columns.{leftFrom, left}
+use Rattle.schedule.proofs.Orders.{length-without, mem-without}
+use Rattle.core.specs.Columns.{columns, leftFrom, left}
 use Rattle.core.specs.Taking.{better}
-use Rattle.core.proofs.Marked.{mem-without, scan-taken, scan-free, scan-end}
+use Rattle.core.proofs.Marked.{scan-taken, scan-free, scan-end}
 
 -- Two numbers compared.
 ahead-less : (a b : ℕ) (x : Bool) → a < b → ahead (compare a b) x ≡ true
@@ -47,24 +47,24 @@ ahead-same a b x h = go (compare a b) (compared a b)
 module _ (job : ℕ → Job) (t : ℕ) where
   -- Which of two rows goes before the other.
   module _ (i j : ℕ) where
-    pub ready-first : ready (job i) t < ready (job j) t → before job t i j ≡ true
+    ready-first : ready (job i) t < ready (job j) t → before job t i j ≡ true
     unfolding before
     ready-first h = ahead-less (ready (job i) t) (ready (job j) t) _ h
 
-    pub ready-last : ready (job j) t < ready (job i) t → before job t i j ≡ false
+    ready-last : ready (job j) t < ready (job i) t → before job t i j ≡ false
     unfolding before
     ready-last h = ahead-more (ready (job i) t) (ready (job j) t) _ h
 
     module _ (e : ready (job i) t ≡ ready (job j) t) where
-      pub due-first : job i .due < job j .due → before job t i j ≡ true
+      due-first : job i .due < job j .due → before job t i j ≡ true
       unfolding before
       due-first h = ahead-same (ready (job i) t) (ready (job j) t) _ e ∙ ahead-less (job i .due) (job j .due) (ltb i j) h
 
-      pub due-last : job j .due < job i .due → before job t i j ≡ false
+      due-last : job j .due < job i .due → before job t i j ≡ false
       unfolding before
       due-last h = ahead-same (ready (job i) t) (ready (job j) t) _ e ∙ ahead-more (job i .due) (job j .due) (ltb i j) h
 
-      pub row-decides : job i .due ≡ job j .due → before job t i j ≡ ltb i j
+      row-decides : job i .due ≡ job j .due → before job t i j ≡ ltb i j
       unfolding before
       row-decides d = ahead-same (ready (job i) t) (ready (job j) t) _ e ∙ ahead-same (job i .due) (job j .due) (ltb i j) d
 
@@ -74,11 +74,11 @@ module _ (job : ℕ → Job) (t : ℕ) where
     unfolding better
     better-none e = simp (eq-eqb i 0 e)
 
-    pub better-new : (i ≡ 0 → ⊥) → before job t j i ≡ true → j ≡ better job t i j
+    better-new : (i ≡ 0 → ⊥) → before job t j i ≡ true → j ≡ better job t i j
     unfolding better
     better-new n b = simp (ne-eqb i 0 n, b)
 
-    pub better-old : (i ≡ 0 → ⊥) → before job t j i ≡ false → i ≡ better job t i j
+    better-old : (i ≡ 0 → ⊥) → before job t j i ≡ false → i ≡ better job t i j
     unfolding better
     better-old n b = simp (ne-eqb i 0 n, b)
 
@@ -90,6 +90,34 @@ module _ (job : ℕ → Job) (t : ℕ) where
         go true b = q
         go false true = q
         go false false = p
+
+  -- The better of two rows, from the minutes a and b at which they are ready.
+  module _ (i j : ℕ) (some : i ≡ 0 → ⊥) (a b : ℕ) (ready-i : a ≡ max t (job i .release)) (ready-j : b ≡ max t (job j .release)) where
+    pub ready-sooner : b < a → j ≡ better job t i j
+    unfolding ready
+    ready-sooner h = better-new i j some (ready-first j i (omega arith))
+
+    pub ready-later : a < b → i ≡ better job t i j
+    unfolding ready
+    ready-later h = better-old i j some (ready-last j i (omega arith))
+
+    module _ (h : a ≤ b) (g : b ≤ a) where
+      together : ready (job j) t ≡ ready (job i) t
+      unfolding ready
+      together = omega arith
+
+      pub due-sooner : job j .due < job i .due → j ≡ better job t i j
+      due-sooner d = better-new i j some (due-first j i together d)
+
+      pub due-later : job i .due < job j .due → i ≡ better job t i j
+      due-later d = better-old i j some (due-last j i together d)
+
+      module _ (d : job i .due ≤ job j .due) (e : job j .due ≤ job i .due) where
+        pub row-smaller : j < i → j ≡ better job t i j
+        row-smaller l = better-new i j some (row-decides j i together (omega arith) ∙ lt-ltb j i l)
+
+        pub row-larger : i ≤ j → i ≡ better job t i j
+        row-larger l = better-old i j some (row-decides j i together (omega arith) ∙ le-ltb j i l)
 
   -- The pick of the row b, if there is one so far, and the rows js.
   unfoldable pub scan : ℕ → List ℕ → ℕ
@@ -137,30 +165,59 @@ module _ (job : ℕ → Job) (t : ℕ) where
   decided-is (i ∷ is) k m p =
       let f = firstPick job t (i ∷ is) in
       ap (λ (b : Bool). b || leb (job f .due) (job (secondPick job t (i ∷ is)) .due))
-      (none-other (length (i ∷ is)) (without f (i ∷ is)) (λ k m. p k (mem-without k f (i ∷ is) m)) (length-without f (i ∷ is) (pick-mem i is)))
+      (none-other (length (i ∷ is)) (without f (i ∷ is)) (λ k m. p k (mem-without f (i ∷ is) m)) (length-without f (i ∷ is) (pick-mem i is)))
 
--- One turn of the scan over the rows from i on, with the row `skip` passed over as if it were taken: the pick stays the same.
-module _ (job : ℕ → Job) (t : ℕ) (taken : List Bool) (skip n i : ℕ) (h : i ≤ n) (b : ℕ) where
+-- The scan over the rows from i on, with the row `skip` passed over as if it were taken. Lengths play no part in it.
+module _ (release due : List ℕ) (taken : List Bool) (skip n t : ℕ) where
   abbrev marks : List Bool
   marks = set taken skip true
 
-  pass : getD marks i false ≡ true → scan job t b (leftFrom marks (i + 1) (n + 1 - (i + 1))) ≡ scan job t b (leftFrom marks i (n + 1 - i))
-  pass e = ap (scan job t b) (sym (scan-taken marks n i h e))
+  -- What the loop keeps: the best row so far and the rows from i on have the pick of all.
+  pub record Scanning (best i : ℕ) : Type 0 where
+    pub low : 1 ≤ i
+    pub high : i ≤ n + 1
+    pub below : best < i
+    pub same : (len : List ℕ) → scan (columns release len due) t best (leftFrom (set taken skip true) i (n + 1 - i)) ≡ firstPick (columns release len due) t (left (set taken skip true) n)
 
-  pub turn-skipped : i ≡ skip → i < length taken → scan job t b (leftFrom marks (i + 1) (n + 1 - (i + 1))) ≡ scan job t b (leftFrom marks i (n + 1 - i))
-  turn-skipped e l = pass (ap (λ (k : ℕ). getD (set taken k true) i false) (sym e) ∙ getD-set-same taken i true false l)
+  pub scanning-first : Scanning 0 1
+  unfolding left scan
+  scanning-first = record {
+    low = omega arith;
+    high = omega arith;
+    below = omega arith;
+    same = λ len. let s : n + 1 - 1 ≡ n = omega arith in ap (λ (m : ℕ). firstPick (columns release len due) t (leftFrom marks 1 m)) s;
+  }
 
-  pub turn-taken : (i ≡ skip → ⊥) → getD taken i false ≡ true → scan job t b (leftFrom marks (i + 1) (n + 1 - (i + 1))) ≡ scan job t b (leftFrom marks i (n + 1 - i))
-  turn-taken d e = pass (getD-set-other taken skip i true false d ∙ e)
+  module _ (best i : ℕ) (s : Scanning best i) where
+    pub scanning-last : n < i → (len : List ℕ) → best ≡ firstPick (columns release len due) t (left marks n)
+    scanning-last h len = sym (ap (scan (columns release len due) t best) (scan-end marks n i h) ∙ scan-last (columns release len due) t best) ∙ s .same len
 
-  pub turn-free : (i ≡ skip → ⊥) → 1 ≤ i → getD taken i false ≡ false → scan job t (better job t b i) (leftFrom marks (i + 1) (n + 1 - (i + 1))) ≡ scan job t b (leftFrom marks i (n + 1 - i))
-  turn-free d l e =
-      scan-next job t b i (leftFrom marks (i + 1) (n + 1 - (i + 1))) l ∙
-      ap (scan job t b) (sym (scan-free marks n i h (getD-set-other taken skip i true false d ∙ e)))
+    module _ (h : i ≤ n) (b : ℕ) where
+      -- A row that is marked is passed over.
+      pass : getD marks i false ≡ true → b ≡ best → Scanning b (i + 1)
+      pass e k = record {
+        low = omega arith;
+        high = omega arith;
+        below = omega (arith, s .below);
+        same = λ len. let job = columns release len due in
+            ap (λ (m : ℕ). scan job t m (leftFrom marks (i + 1) (n + 1 - (i + 1)))) k ∙ (ap (scan job t best) (sym (scan-taken marks n i h e)) ∙ s .same len);
+      }
 
-pub turn-last : (job : ℕ → Job) (t : ℕ) (marks : List Bool) (n i b : ℕ) → n < i → b ≡ scan job t b (leftFrom marks i (n + 1 - i))
-turn-last job t marks n i b h = sym (ap (scan job t b) (scan-end marks n i h) ∙ scan-last job t b)
+      pub scanning-skipped : length taken ≡ 257 → n ≤ 256 → i ≡ skip → b ≡ best → Scanning b (i + 1)
+      scanning-skipped l m e k = pass (ap (λ (j : ℕ). getD (set taken j true) i false) (sym e) ∙ getD-set-same taken i true false (omega arith)) k
 
-pub turn-first : (job : ℕ → Job) (t : ℕ) (marks : List Bool) (n : ℕ) → scan job t 0 (leftFrom marks 1 (n + 1 - 1)) ≡ firstPick job t (left marks n)
-unfolding left scan
-turn-first job t marks n = let s : n + 1 - 1 ≡ n = omega arith in ap (λ (m : ℕ). firstPick job t (leftFrom marks 1 m)) s
+      module _ (other : i ≡ skip → ⊥) where
+        pub scanning-taken : getD taken i false ≡ true → b ≡ best → Scanning b (i + 1)
+        scanning-taken e k = pass (getD-set-other taken skip i true false other ∙ e) k
+
+        -- Another row is held against the best so far.
+        pub scanning-free : getD taken i false ≡ false → ((len : List ℕ) → b ≡ better (columns release len due) t best i) → Scanning b (i + 1)
+        scanning-free e k = record {
+          low = omega arith;
+          high = omega arith;
+          below = subst (λ (m : ℕ). m < i + 1) (sym (k [])) (better-below (columns release [] due) t best i (i + 1) (omega (arith, s .below)) (omega arith));
+          same = λ len. let job = columns release len due in
+              let rest = leftFrom marks (i + 1) (n + 1 - (i + 1)) in
+              ap (λ (m : ℕ). scan job t m rest) (k len) ∙ (scan-next job t best i rest (s .low) ∙
+              (ap (scan job t best) (sym (scan-free marks n i h (getD-set-other taken skip i true false other ∙ e))) ∙ s .same len));
+        }

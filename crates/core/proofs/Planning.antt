@@ -1,6 +1,6 @@
 -- The plan made of a run and blocks: what the search keeps from block to block, and how it begins and ends.
 -- Assumes nothing.
-use Prim.Native.Nat.{ℕ, zero, suc, _+_, _-_, _≤_, _<_}
+use Prim.Native.Nat.{ℕ, zero, suc, _-_, _≤_, _<_}
 use native.Mathlib.Omega.{arith}
 use mathlib.Core.Bool.{Bool, true, false, cond}
 use mathlib.Core.Path.{_≡_, refl, sym, ap, _∙_}
@@ -17,6 +17,7 @@ use Rattle.schedule.specs.Rows.{countFrom, withoutAll}
 use Rattle.schedule.specs.Desk.{endOf, keeps}
 use Rattle.schedule.specs.Picks.{joined, decided, run, block, blockOne, blockTwo, blocksFor, orderFor}
 use Rattle.schedule.specs.Offset.{lowered}
+use Rattle.schedule.proofs.Numbers.{length-count}
 use Rattle.core.specs.declared.State.{State}
 use Rattle.core.specs.declared.Plan.{Plan}
 use Rattle.core.specs.Columns.{Limits, leftFrom, left}
@@ -55,17 +56,12 @@ start-left : (free n : ℕ) → left (startAt free .taken) n ≡ countFrom 1 n
 unfolding left startAt
 start-left free n = all-left 257 1 n
 
-pub count-length : (i n : ℕ) → length (countFrom i n) ≡ n
-unfolding countFrom
-count-length i zero = refl
-count-length i (suc n) = ap suc (count-length (suc i) n)
-
 pub start-going : (free n : ℕ) → free ≤ 10000000 → (begin : State) → begin ≡ startAt free → Going n begin
 unfolding startAt
 start-going free n h begin e = record {
   marks = ap (λ (u : State). length (u .taken)) e ∙ length-replicate 257 false;
   places = ap (λ (u : State). length (u .order)) e ∙ length-replicate {A = ℕ} 256 0;
-  rows = omega (arith, ap (λ (u : State). u .count) e, ap (λ (u : State). length (left (u .taken) n)) e, ap length (start-left free n), count-length 1 n);
+  rows = omega (arith, ap (λ (u : State). u .count) e, ap (λ (u : State). length (left (u .taken) n)) e, ap length (start-left free n), length-count 1 n);
   minutes = omega (arith, ap (λ (u : State). u .desk .minute) e);
   lates = omega (arith, ap (λ (u : State). u .desk .worst) e);
 }
@@ -237,7 +233,7 @@ module _ (job : ℕ → Job) (bound n free : ℕ) (begin : State) (starts : begi
     enough = omega (arith, a .going .rows);
     same =
         plan-after job bound begin n limits n begin (omega (arith, ap (λ (u : State). u .desk .worst) starts)) (runOf job n begin) r a ∙
-        (ap (planOf job begin begin) (order-test (begin .desk .minute) (left (begin .taken) n) (ap (λ (u : State). length (left (u .taken) n)) starts ∙ (ap length (start-left free n) ∙ count-length 1 n))) ∙
+        (ap (planOf job begin begin) (order-test (begin .desk .minute) (left (begin .taken) n) (ap (λ (u : State). length (left (u .taken) n)) starts ∙ (ap length (start-left free n) ∙ length-count 1 n))) ∙
         (ap (λ (u : State). planOf job u u (orderFor job (u .desk .minute) (left (u .taken) n) (lowered bound))) starts ∙
         ap (λ (l : List ℕ). planOf job (startAt free) (startAt free) (orderFor job free l (lowered bound))) (start-left free n)));
   }

@@ -1,26 +1,23 @@
 -- Raised latenesses and signed ones: the desk's worst lateness is within a raised bound exactly where every lateness is within the signed one.
 -- Assumes nothing.
-use Prim.Native.Nat.{ℕ, zero, suc, _+_, _-_, _≤_, _<_, max}
+use Prim.Native.Nat.{ℕ, _+_, _-_, _≤_, _<_, max}
 use native.Mathlib.Omega.{arith}
 use mathlib.Core.Bool.{Bool, true, false, cond, _&&_}
 use mathlib.Core.Path.{_≡_, refl, sym, ap, _∙_}
 use mathlib.Core.List.{List, [], _∷_}
-use lib.Dec.{T, leb}
+use lib.Dec.{T, leb, ltb, leb→le, le→leb, ltb→lt, lt→ltb}
 use lib.ListN.{length}
-use lib.IntN.{ℤ, pos, negsuc, subℕ, predℤ}
-use lib.Signed.{leZ}
+use lib.IntN.{ℤ, subℕ, predℤ}
+use lib.Signed.{leZ, ltZ}
 use borrow.Author.Tests.{le-leb, lt-leb, leb-true, leb-false}
 use Rattle.theory.specs.Jobs.{Job, finish}
 use Rattle.schedule.specs.declared.Desk.{Desk}
 use Rattle.schedule.specs.Desk.{maxZ, worstOf, atMost, latenesses, endOf, keeps, pairOf}
 use Rattle.schedule.specs.Offset.{raised, lowered, deskAt, deskAfter}
-use Rattle.schedule.proofs.Signed.{up, down, sub-cases, leZ→, →leZ, level, sub-level, pred-level}
+use Rattle.schedule.proofs.Words.{raised-lowered}
+use Rattle.schedule.proofs.Signed.{leZ→, →leZ, ltZ→, →ltZ, level, sub-level, pred-level}
 use Rattle.core.specs.Columns.{Limits}
 use Rattle.core.specs.Taking.{deskThrough}
-
--- Every raised number is that of the lowered one.
-pub raised-lowered : (n : ℕ) → raised (lowered n) ≡ n
-raised-lowered n = sub-cases n 2147483648 (λ z. raised z ≡ n) (λ k e. omega arith) (λ k e. omega arith)
 
 -- The bound one below.
 pub lowered-pred : (n : ℕ) → 1 ≤ n → lowered (n - 1) ≡ predℤ (lowered n)
@@ -33,49 +30,39 @@ one-test true false f g = absurd (f tt)
 one-test false true f g = absurd (g tt)
 one-test false false f g = refl
 
-T-leb : (a b : ℕ) → a ≤ b → T (leb a b)
-T-leb a b h = rw (le-leb a b h) tt
+-- Raised numbers compare as the lowered ones do.
+pub lowered-le : (a b : ℕ) → leZ (lowered a) (lowered b) ≡ leb a b
+lowered-le a b =
+    one-test (leZ (lowered a) (lowered b)) (leb a b)
+    (λ t. le→leb a b (omega (arith, leZ→ (lowered a) (lowered b) t, sub-level a 2147483648, sub-level b 2147483648)))
+    (λ t. →leZ (lowered a) (lowered b) (omega (arith, leb→le a b t, sub-level a 2147483648, sub-level b 2147483648)))
 
-leb-T : (a b : ℕ) → T (leb a b) → a ≤ b
-leb-T a b t = go (leb a b) refl t
-  where
-    go : (c : Bool) → leb a b ≡ c → T c → a ≤ b
-    go true e t = leb-true a b e
-    go false e t = absurd t
-
--- The order of two differences is an order of sums of naturals.
-pub leZ-sub : (a b c d : ℕ) → leZ (subℕ a b) (subℕ c d) ≡ leb (a + d) (c + b)
-leZ-sub a b c d =
-    one-test (leZ (subℕ a b) (subℕ c d)) (leb (a + d) (c + b))
-    (λ t. T-leb (a + d) (c + b) (omega (arith, leZ→ (subℕ a b) (subℕ c d) t, sub-level a b, sub-level c d)))
-    (λ t. →leZ (subℕ a b) (subℕ c d) (omega (arith, leb-T (a + d) (c + b) t, sub-level a b, sub-level c d)))
+pub lowered-lt : (a b : ℕ) → ltZ (lowered a) (lowered b) ≡ ltb a b
+lowered-lt a b =
+    one-test (ltZ (lowered a) (lowered b)) (ltb a b)
+    (λ t. lt→ltb a b (omega (arith, ltZ→ (lowered a) (lowered b) t, sub-level a 2147483648, sub-level b 2147483648)))
+    (λ t. →ltZ (lowered a) (lowered b) (omega (arith, ltb→lt a b t, sub-level a 2147483648, sub-level b 2147483648)))
 
 -- A raised lateness, lowered; and the test of one.
 late-lowered : (end due : ℕ) → due ≤ 2147483648 → lowered (end + 2147483648 - due) ≡ subℕ end due
 late-lowered end due h = level (lowered (end + 2147483648 - due)) (subℕ end due) (omega (arith, sub-level (end + 2147483648 - due) 2147483648, sub-level end due))
 
 late-within : (end due bound : ℕ) → due ≤ 2147483648 → leb (end + 2147483648 - due) bound ≡ leZ (subℕ end due) (lowered bound)
-late-within end due bound h =
-    one-test (leb (end + 2147483648 - due) bound) (leZ (subℕ end due) (lowered bound))
-    (λ t. →leZ (subℕ end due) (lowered bound) (omega (arith, leb-T (end + 2147483648 - due) bound t, sub-level end due, sub-level bound 2147483648)))
-    (λ t. T-leb (end + 2147483648 - due) bound (omega (arith, leZ→ (subℕ end due) (lowered bound) t, sub-level end due, sub-level bound 2147483648)))
+late-within end due bound h = sym (lowered-le (end + 2147483648 - due) bound) ∙ ap (λ (z : ℤ). leZ z (lowered bound)) (late-lowered end due h)
 
 max-lowered : (a b : ℕ) → lowered (max a b) ≡ maxZ (lowered a) (lowered b)
 unfolding maxZ
 max-lowered a b = go (leb a b) refl
   where
-    same : leZ (lowered a) (lowered b) ≡ leb (a + 2147483648) (b + 2147483648)
-    same = leZ-sub a 2147483648 b 2147483648
-
     go : (t : Bool) → leb a b ≡ t → lowered (max a b) ≡ cond (leZ (lowered a) (lowered b)) (lowered b) (lowered a)
     go true e =
         let h : a ≤ b = leb-true a b e in
         let m : max a b ≡ b = omega arith in
-        ap lowered m ∙ ap (λ (c : Bool). cond c (lowered b) (lowered a)) (sym (same ∙ le-leb (a + 2147483648) (b + 2147483648) (omega arith)))
+        ap lowered m ∙ ap (λ (c : Bool). cond c (lowered b) (lowered a)) (sym (lowered-le a b ∙ e))
     go false e =
         let h : b < a = leb-false a b e in
         let m : max a b ≡ a = omega arith in
-        ap lowered m ∙ ap (λ (c : Bool). cond c (lowered b) (lowered a)) (sym (same ∙ lt-leb (a + 2147483648) (b + 2147483648) (omega arith)))
+        ap lowered m ∙ ap (λ (c : Bool). cond c (lowered b) (lowered a)) (sym (lowered-le a b ∙ e))
 
 max-within : (a b c : ℕ) → leb (max a b) c ≡ (leb a c && leb b c)
 max-within a b c = go (leb a c) (leb b c) refl refl
@@ -157,3 +144,7 @@ module _ (job : ℕ → Job) where
 
     pub followed-end : (free : ℕ) (o : List ℕ) → deskThrough job (deskAt free) o .minute ≡ endOf job free o
     followed-end free o = through-minute (deskAt free) o
+
+    -- The raised lateness of an order lowers to its lateness.
+    pub late-lowers : (free : ℕ) (o : List ℕ) → 1 ≤ length o → lowered (raised (pairOf job free o .late)) ≡ pairOf job free o .late
+    late-lowers free o h = ap lowered (sym (followed-raised free o h)) ∙ followed-late free o h

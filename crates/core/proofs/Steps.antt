@@ -1,6 +1,6 @@
 -- One step of the planner from a state: the picks, the row taken, and the run from there.
 -- Assumes nothing.
-use Prim.Native.Nat.{ℕ, _+_, _*_, _≤_, _<_}
+use Prim.Native.Nat.{ℕ, _-_, _≤_, _<_}
 use native.Mathlib.Omega.{arith}
 use mathlib.Core.Bool.{Bool, true, false, _||_}
 use mathlib.Core.Path.{_≡_, refl, sym, ap, _∙_, subst}
@@ -17,7 +17,7 @@ use Rattle.core.specs.Columns.{Limits, left}
 use Rattle.core.specs.Taking.{Going, After, takeRow, takeRows}
 use Rattle.core.proofs.Marked.{left-row, left-mark, left-all}
 use Rattle.core.proofs.Picks.{pick-mem, decided-is}
-use Rattle.core.proofs.Runs.{run-none, run-stop, run-takes}
+use Rattle.core.proofs.Runs.{run-none, run-undecided, run-takes}
 
 -- The run from a state.
 abbrev pub runOf : (ℕ → Job) → ℕ → State → List ℕ
@@ -88,6 +88,9 @@ module _ (job : ℕ → Job) where
       pub taken-going : Limits job → (next : State) → next ≡ takeRow job s i → Going n next
       taken-going k next e = subst (λ (u : State). Going n u) (sym e) (going k)
 
+      pub taken-less : (next : State) → next ≡ takeRow job s i → n - next .count < n - s .count
+      taken-less next e = omega (arith, room, ap (λ (u : State). u .count) e)
+
     -- The code's first pick i, with no row passed over.
     module _ (i : ℕ) (picks : i ≡ firstPick job now (left (set (s .taken) 0 true) n)) where
       pub first-pick : i ≡ firstPick job now rest
@@ -149,4 +152,4 @@ module _ (job : ℕ → Job) where
     ended-none e = ended (ap (run job (s .desk .minute)) e ∙ run-none job (s .desk .minute)) (inl e)
 
     pub ended-undecided : decided job (s .desk .minute) (left (s .taken) n) ≡ false → After job n begin (runOf job n begin) s
-    ended-undecided e = ended (run-stop job (s .desk .minute) (left (s .taken) n) e) (inr e)
+    ended-undecided e = ended (run-undecided job (s .desk .minute) (left (s .taken) n) e) (inr e)

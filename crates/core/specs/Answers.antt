@@ -8,16 +8,17 @@ use mathlib.Core.Option.{Option, none, some}
 use lib.Dec.{eqb}
 use lib.ListN.{length, getD, set, take, drop}
 use Rattle.theory.specs.Jobs.{Job}
+use Rattle.schedule.specs.declared.Desk.{Desk}
 use Rattle.schedule.specs.Rows.{countFrom}
-use Rattle.schedule.specs.Desk.{Pair, endOf, pairOf}
+use Rattle.schedule.specs.Desk.{endOf, pairOf}
 use Rattle.schedule.specs.Picks.{orderFor}
 use Rattle.schedule.specs.Plans.{plans}
-use Rattle.schedule.specs.Offset.{raised, lowered}
+use Rattle.schedule.specs.Offset.{raised, lowered, deskAt}
 use Rattle.core.specs.declared.Plan.{Plan}
 use Rattle.core.specs.declared.Front.{Front}
 use Rattle.core.specs.declared.Planned.{Planned}
 use Rattle.core.specs.declared.Planned.the-variants.{Kept, Unkept}
-use Rattle.core.specs.Taking.{startAt, planOf}
+use Rattle.core.specs.Taking.{startAt, deskThrough, planOf}
 
 -- A raised lateness is at least 1, at most the bound, and at most 17,680,000 raised.
 abbrev pub Bounded : ℕ → Planned → Type 0
@@ -66,6 +67,14 @@ module _ (job : ℕ → Job) where
     pub answered : answer ≡ plannedOf free (orderOf n free bound)
     pub buffer : after ≡ writtenOf (orderOf n free bound) b
     pub bounded : Bounded bound answer
+
+  -- The whole outcome of following a posting: the desk after its rows in turn, and of at least one row the order's pair.
+  pub record Followed (free : ℕ) (posting : List ℕ) (r : Desk) : Type 0 where
+    pub desk : r ≡ deskThrough job (deskAt free) posting
+    pub end : r .minute ≡ endOf job free posting
+    pub late : 1 ≤ length posting → r .worst ≡ raised (pairOf job free posting .late)
+    pub low : 1 ≤ length posting → 1 ≤ r .worst
+    pub high : r .worst ≤ 2165163648
 
   -- The whole outcome of the call for the list: how many plans, and the end and the raised lateness of each.
   pub record Listed (n free : ℕ) (r : Front) : Type 0 where

@@ -1,7 +1,7 @@
 -- The planner's state, and what taking rows one after another makes of it: the desk, the marks and the order so far.
 -- Rests on: Columns, and the schedule's desk, picks and blocks.
 use Prim.Native.Nat.{ℕ, _+_, _*_, _≤_}
-use mathlib.Core.Bool.{Bool, true, false, cond}
+use mathlib.Core.Bool.{true, false, cond}
 use mathlib.Core.Path.{_≡_}
 use mathlib.Core.List.{List, [], _∷_}
 use mathlib.Core.Logic.{_⊎_}

@@ -6,24 +6,26 @@ ghost use mathlib.Core.List.{List, List·Memᴰ, _++_};
 ghost use Prim.Native.Nat.{ℕ, _+_, _-_, _≤_, _<_};
 ghost use lib.Dec.{leb, eqb};
 ghost use lib.ListN.{getD, take, drop, set};
+ghost use Rattle.schedule.specs.Rows.{countFrom};
 ghost use Rattle.schedule.specs.Picks.{firstPick, decided, run, block};
-ghost use Rattle.schedule.specs.Offset.{deskAt, lowered};
+ghost use Rattle.schedule.specs.Promise.{Agreeing};
+ghost use Rattle.schedule.specs.Offset.{lowered};
 ghost use Rattle.core.specs.Columns.{columns, Limits, left};
-ghost use Rattle.core.specs.Taking.{startAt, Going, better, deskThrough, takeRow, After, blockFor};
-ghost use Rattle.core.specs.Answers.{Searched, Paired, Ordered};
+ghost use Rattle.core.specs.Taking.{startAt, Going, better, takeRow, After, blockFor};
+ghost use Rattle.core.specs.Answers.{Searched, Paired, Ordered, Followed, placeOf, putPair, Listed};
 
 // The planner's state: the desk, and the rows taken so far, marked and in order.
-pub struct State {
-    pub desk: schedule::Desk,
-    pub count: usize,
-    pub taken: [bool; 257],
-    pub order: [u32; 256],
+struct State {
+    desk: schedule::Desk,
+    count: usize,
+    taken: [bool; 257],
+    order: [u32; 256],
 }
 
 // What the search for an order comes to; where the bound is not kept, the state is that at the start.
-pub struct Plan {
-    pub kept: bool,
-    pub state: State,
+struct Plan {
+    kept: bool,
+    state: State,
 }
 
 // The answer for a bound: the order's end and its worst lateness, raised.
@@ -38,6 +40,9 @@ pub struct Front {
     pub ends: [u32; 256],
     pub lates: [u32; 256],
 }
+
+// The largest bound: the largest signed 32-bit number, raised by 2^31.
+const LARGEST_BOUND: u32 = 4_294_967_295;
 
 // The one of two rows that goes before the other at the minute t: ready first, then due first, then the smaller row. 0 gives way to any row.
 fn better_row(release: &[u32; 257], due: &[u32; 257], t: u32, i: usize, j: usize) -> usize
@@ -312,7 +317,7 @@ pub fn follow(
 ) -> schedule::Desk
     requires { ⌜ Limits (columns (now release) (now length) (now due)) ⌝ }
     requires { ⌜ (free ≤ 10000000) × (lib.ListN.length (now posting) ≤ 256) × ((k : ℕ) → getD (now posting) k 0 ≤ 256) ⌝ }
-    ensures { λ r. ⌜ r ≡ deskThrough (columns (now (release .entry)) (now (length .entry)) (now (due .entry))) (deskAt free) (now (posting .entry)) ⌝ }
+    ensures { λ r. ⌜ Followed (columns (now (release .entry)) (now (length .entry)) (now (due .entry))) free (now (posting .entry)) r ⌝ }
 {
     let mut desk = schedule::Desk::at(free);
     let mut k = 0;
@@ -322,4 +327,63 @@ pub fn follow(
         k += 1;
     }
     desk
+}
+
+// The place of the next pair on the list: that of the last pair where both have one end, otherwise the place after it.
+fn place_of(ends: &[u32; 256], count: usize, end: u32) -> usize
+    requires { ⌜ count ≤ 256 ⌝ }
+    ensures { λ r. ⌜ r ≡ placeOf (now (ends .entry)) count end ⌝ }
+{
+    if count == 0 {
+        return 0;
+    }
+    let last = count - 1;
+    if ends[last] == end {
+        return last;
+    }
+    count
+}
+
+// The list with one pair more, which takes the place of the last pair where both have one end.
+fn put_pair(front: Front, end: u32, late: u32) -> Front
+    requires { ⌜ (front .count ≤ 256) × (placeOf (front .ends) (front .count) end < 256) ⌝ }
+    ensures { λ r. ⌜ r ≡ putPair front end late ⌝ }
+{
+    let mut ends = front.ends;
+    let mut lates = front.lates;
+    let k = place_of(&ends, front.count, end);
+    ends[k] = end;
+    lates[k] = late;
+    Front {
+        count: k + 1,
+        ends: ends,
+        lates: lates,
+    }
+}
+
+// The list: the pairs of the orders for ever smaller bounds, until no order keeps the bound.
+pub fn list_plans(
+    release: &[u32; 257],
+    length: &[u32; 257],
+    due: &[u32; 257],
+    n: usize,
+    free: u32,
+) -> Front
+    requires { ⌜ Limits (columns (now release) (now length) (now due)) ⌝ }
+    requires { ⌜ (1 ≤ n) × (n ≤ 256) × (free ≤ 10000000) × Agreeing (columns (now release) (now length) (now due)) (countFrom 1 n) ⌝ }
+    ensures { λ r. ⌜ Listed (columns (now (release .entry)) (now (length .entry)) (now (due .entry))) n free r ⌝ }
+{
+    let mut front = Front {
+        count: 0,
+        ends: [0; 256],
+        lates: [0; 256],
+    };
+    let mut bound: u32 = LARGEST_BOUND;
+    loop {
+        let Planned::Kept(end, late) = pair_for(release, length, due, n, free, bound) else {
+            return front;
+        };
+        front = put_pair(front, end, late);
+        bound = late - 1;
+    }
 }

@@ -1,15 +1,10 @@
+-- `better_row` meets its contract: it gives the row that goes before the other.
+-- Assumes nothing.
 use borrow.Author.Needs.{needs}
-use mathlib.Core.Path.{_∙_}
-use native.Mathlib.Omega.{arith}
-use borrow.Author.Tests.{lt-ltb, le-ltb}
-use Rattle.theory.specs.Jobs.{ready}
 use Rattle.core.specs.Columns.{columns}
-use Rattle.core.proofs.Picks.{ready-first, ready-last, due-first, due-last, row-decides, better-none, better-new, better-old}
+use Rattle.core.proofs.Picks.{better-none, ready-sooner, ready-later, due-sooner, due-later, row-smaller, row-larger}
 use Rattle.core.proofs.better_row.Statement.{statement}
 use Rattle.core.proofs.better_row.Tie as tie
-use Rattle.core.proofs.better_row.Reads as reads
-use Rattle.core.proofs.better_row.Lts as lts
-use Rattle.schedule.proofs.later.Reads as later-reads
 
 returns : tie.Need-returns
 returns c =
@@ -35,18 +30,14 @@ later-requires-2 : tie.Need-later-requires-2
 later-requires-2 c κs = search needs
 
 returns-2 : tie.Need-returns-2
-unfolding ready
 returns-2 c =
     let a = c .before .before .before .before .before .before .args in
-    λ length. let job = columns (a .release .now) length (a .due .now) in
-    better-new job (a .t) (a .i) (a .j) (c .before .before .before .before .before .if1 .left) (ready-first job (a .t) (a .j) (a .i) (omega arith))
+    λ length. ready-sooner (columns (a .release .now) length (a .due .now)) (a .t) (a .i) (a .j) (c .before .before .before .before .before .if1 .left) (c .before .before .before .later .result) (c .before .later2 .result) (c .before .before .before .later .ensures) (c .before .later2 .ensures) (c .if2 .taken)
 
 returns-3 : tie.Need-returns-3
-unfolding ready
 returns-3 c =
     let a = c .before .before .before .before .before .before .before .args in
-    λ length. let job = columns (a .release .now) length (a .due .now) in
-    better-old job (a .t) (a .i) (a .j) (c .before .before .before .before .before .before .if1 .left) (ready-last job (a .t) (a .j) (a .i) (omega arith))
+    λ length. ready-later (columns (a .release .now) length (a .due .now)) (a .t) (a .i) (a .j) (c .before .before .before .before .before .before .if1 .left) (c .before .before .before .before .later .result) (c .before .before .later2 .result) (c .before .before .before .before .later .ensures) (c .before .before .later2 .ensures) (c .if3 .taken)
 
 mul-d : tie.Need-mul-d
 mul-d c = search needs
@@ -61,32 +52,24 @@ element-copy-out-e : tie.Need-element-copy-out-e
 element-copy-out-e c = search needs
 
 returns-4 : tie.Need-returns-4
-unfolding ready
 returns-4 c =
     let a = c .before .before .before .before .before .before .before .before .before .before .args in
-    λ length. let job = columns (a .release .now) length (a .due .now) in
-    better-new job (a .t) (a .i) (a .j) (c .before .before .before .before .before .before .before .before .before .if1 .left) (due-first job (a .t) (a .j) (a .i) (omega arith) (omega arith))
+    λ length. due-sooner (columns (a .release .now) length (a .due .now)) (a .t) (a .i) (a .j) (c .before .before .before .before .before .before .before .before .before .if1 .left) (c .before .before .before .before .before .before .before .later .result) (c .before .before .before .before .before .later2 .result) (c .before .before .before .before .before .before .before .later .ensures) (c .before .before .before .before .before .later2 .ensures) (c .before .before .before .before .if2 .left) (c .before .before .before .if3 .left) (c .if4 .taken)
 
 returns-5 : tie.Need-returns-5
-unfolding ready
 returns-5 c =
     let a = c .before .before .before .before .before .before .before .before .before .before .before .args in
-    λ length. let job = columns (a .release .now) length (a .due .now) in
-    better-old job (a .t) (a .i) (a .j) (c .before .before .before .before .before .before .before .before .before .before .if1 .left) (due-last job (a .t) (a .j) (a .i) (omega arith) (omega arith))
+    λ length. due-later (columns (a .release .now) length (a .due .now)) (a .t) (a .i) (a .j) (c .before .before .before .before .before .before .before .before .before .before .if1 .left) (c .before .before .before .before .before .before .before .before .later .result) (c .before .before .before .before .before .before .later2 .result) (c .before .before .before .before .before .before .before .before .later .ensures) (c .before .before .before .before .before .before .later2 .ensures) (c .before .before .before .before .before .if2 .left) (c .before .before .before .before .if3 .left) (c .if5 .taken)
 
 returns-6 : tie.Need-returns-6
-unfolding ready
 returns-6 c =
     let a = c .before .before .before .before .before .before .before .before .before .before .before .before .args in
-    λ length. let job = columns (a .release .now) length (a .due .now) in
-    better-new job (a .t) (a .i) (a .j) (c .before .before .before .before .before .before .before .before .before .before .before .if1 .left) (row-decides job (a .t) (a .j) (a .i) (omega arith) (omega arith) ∙ lt-ltb (a .j) (a .i) (omega arith))
+    λ length. row-smaller (columns (a .release .now) length (a .due .now)) (a .t) (a .i) (a .j) (c .before .before .before .before .before .before .before .before .before .before .before .if1 .left) (c .before .before .before .before .before .before .before .before .before .later .result) (c .before .before .before .before .before .before .before .later2 .result) (c .before .before .before .before .before .before .before .before .before .later .ensures) (c .before .before .before .before .before .before .before .later2 .ensures) (c .before .before .before .before .before .before .if2 .left) (c .before .before .before .before .before .if3 .left) (c .before .before .if4 .left) (c .before .if5 .left) (c .if6 .taken)
 
 returns-7 : tie.Need-returns-7
-unfolding ready
 returns-7 c =
     let a = c .before .before .before .before .before .before .before .before .before .before .before .before .args in
-    λ length. let job = columns (a .release .now) length (a .due .now) in
-    better-old job (a .t) (a .i) (a .j) (c .before .before .before .before .before .before .before .before .before .before .before .if1 .left) (row-decides job (a .t) (a .j) (a .i) (omega arith) (omega arith) ∙ le-ltb (a .j) (a .i) (omega arith))
+    λ length. row-larger (columns (a .release .now) length (a .due .now)) (a .t) (a .i) (a .j) (c .before .before .before .before .before .before .before .before .before .before .before .if1 .left) (c .before .before .before .before .before .before .before .before .before .later .result) (c .before .before .before .before .before .before .before .later2 .result) (c .before .before .before .before .before .before .before .before .before .later .ensures) (c .before .before .before .before .before .before .before .later2 .ensures) (c .before .before .before .before .before .before .if2 .left) (c .before .before .before .before .before .if3 .left) (c .before .before .if4 .left) (c .before .if5 .left) (c .if6 .left)
 
 pub better-row-spec : {M : Type 1} → statement M
 better-row-spec =

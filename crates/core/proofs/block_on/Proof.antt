@@ -1,13 +1,10 @@
-use borrow.Author.Needs.{needs}
+-- `block_on` meets its contract: it takes a row, and then the run from there.
+-- Assumes nothing.
 use Rattle.core.specs.Columns.{columns}
 use Rattle.core.proofs.Steps.{may-take, taken-going}
 use Rattle.core.proofs.Blocks.{block-after}
 use Rattle.core.proofs.block_on.Statement.{statement}
 use Rattle.core.proofs.block_on.Tie as tie
-use Rattle.core.proofs.block_on.Reads as reads
-use Rattle.core.proofs.block_on.Lts as lts
-use Rattle.core.proofs.run_on.Reads as run-on-reads
-use Rattle.core.proofs.take_row.Reads as take-row-reads
 
 take-row-requires : tie.Need-take-row-requires
 take-row-requires c κs =

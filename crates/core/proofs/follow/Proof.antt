@@ -1,5 +1,7 @@
+-- `follow` meets its contract: from each place of the posting on, the rest leads where all of it leads from the start.
+-- Assumes nothing.
 use borrow.Author.Needs.{needs}
-use Prim.Native.Nat.{ℕ, _-_}
+use Prim.Native.Nat.{_-_}
 use native.Mathlib.Omega.{arith}
 use lib.ListN.{getD}
 use lib.ListN as L
@@ -7,10 +9,6 @@ use Rattle.core.specs.Columns.{columns}
 use Rattle.core.proofs.Following.{Following, following-first, following-next, following-last, may-follow}
 use Rattle.core.proofs.follow.Statement.{statement}
 use Rattle.core.proofs.follow.Tie as tie
-use Rattle.core.proofs.follow.Reads as reads
-use Rattle.core.proofs.follow.Lts as lts
-use Rattle.schedule.proofs.Desk.at.Reads as at-reads
-use Rattle.schedule.proofs.Desk.take.Reads as take-reads
 
 abbrev Inv-loop : tie.InvT-loop
 Inv-loop release length due free posting desk₀ k₀ desk k = Following (columns release length due) free posting desk k
@@ -72,7 +70,7 @@ loop-again c =
 returns : tie.Need-returns Inv-loop μ-loop
 returns c =
     let a = c .before .before .before .before .args in
-    following-last (columns (a .release .now) (a .length .now) (a .due .now)) (a .free) (a .posting .now) (c .before .before .before .before .pre .0) (c .before .loop .desk) (c .before .loop .k) (c .before .loop .inv) (c .loop-test .left)
+    following-last (columns (a .release .now) (a .length .now) (a .due .now)) (a .free) (a .posting .now) (c .before .before .before .before .pre .0) (c .before .loop .desk) (c .before .loop .k) (c .before .loop .inv) (c .loop-test .left) (c .before .before .before .before .pre .1 .1)
 
 pub follow-spec : {M : Type 1} → statement M
 follow-spec =

@@ -1,14 +1,11 @@
+-- `order_for` meets its contract: it answers with the pair of the order for the bound and writes that order.
+-- Assumes nothing.
 use borrow.Author.Needs.{needs}
-use native.Mathlib.Omega.{arith}
 use borrow.Author.Tests.{not-true, not-false}
 use Rattle.core.specs.Columns.{columns}
 use Rattle.core.proofs.Orders.{order-kept, order-unkept}
 use Rattle.core.proofs.order_for.Statement.{statement}
 use Rattle.core.proofs.order_for.Tie as tie
-use Rattle.core.proofs.order_for.Reads as reads
-use Rattle.core.proofs.order_for.Lts as lts
-use Rattle.core.proofs.plan_for.Reads as plan-for-reads
-use Rattle.core.proofs.write_order.Reads as write-order-reads
 
 plan-for-requires : tie.Need-plan-for-requires
 plan-for-requires c κs = search needs

@@ -1,3 +1,5 @@
+-- `pair_for` meets its contract: it answers with the pair of the order for the bound.
+-- Assumes nothing.
 use borrow.Author.Needs.{needs}
 use borrow.Author.Tests.{not-true, not-false}
 use mathlib.Core.List.{[]}
@@ -5,9 +7,6 @@ use Rattle.core.specs.Columns.{columns}
 use Rattle.core.proofs.Orders.{pair-kept, pair-unkept}
 use Rattle.core.proofs.pair_for.Statement.{statement}
 use Rattle.core.proofs.pair_for.Tie as tie
-use Rattle.core.proofs.pair_for.Reads as reads
-use Rattle.core.proofs.pair_for.Lts as lts
-use Rattle.core.proofs.plan_for.Reads as plan-for-reads
 
 plan-for-requires : tie.Need-plan-for-requires
 plan-for-requires c κs = search needs

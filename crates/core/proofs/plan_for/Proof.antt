@@ -1,14 +1,11 @@
+-- `plan_for` meets its contract: from each state the blocks still to come lead to the plan for the bound. Each block takes a row.
+-- Assumes nothing.
 use borrow.Author.Needs.{needs}
-use Prim.Native.Nat.{ℕ, _-_}
+use Prim.Native.Nat.{_-_}
 use Rattle.core.specs.Columns.{columns}
 use Rattle.core.proofs.Planning.{Planning, planGoal, start-going, plan-begins, plan-torn, plan-less, plan-again, searched-unkept, searched-kept}
 use Rattle.core.proofs.plan_for.Statement.{statement}
 use Rattle.core.proofs.plan_for.Tie as tie
-use Rattle.core.proofs.plan_for.Reads as reads
-use Rattle.core.proofs.plan_for.Lts as lts
-use Rattle.core.proofs.next_block.Reads as next-block-reads
-use Rattle.core.proofs.run_on.Reads as run-on-reads
-use Rattle.core.proofs.start.Reads as start-reads
 
 abbrev Inv-loop : tie.InvT-loop
 Inv-loop release length due n free bound begin s₀ s = Planning (columns release length due) bound begin n (planGoal (columns release length due) bound n free) s

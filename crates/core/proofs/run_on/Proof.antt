@@ -1,18 +1,13 @@
-use borrow.Author.Needs.{needs}
-use Prim.Native.Nat.{ℕ, _-_}
-use mathlib.Core.Path.{refl, ap}
+-- `run_on` meets its contract: from each state the run leads where it leads from the beginning. Each turn takes a row.
+-- Assumes nothing.
+use Prim.Native.Nat.{_-_}
+use mathlib.Core.Path.{refl}
 use native.Mathlib.Omega.{arith}
 use borrow.Author.Tests.{not-true, not-false}
-use Rattle.core.specs.declared.State.{State}
 use Rattle.core.specs.Columns.{columns}
-use Rattle.core.proofs.Steps.{Toward, pick-high, picked, none-left, room, may-take, undecided, goes-on, ended-none, ended-undecided}
+use Rattle.core.proofs.Steps.{Toward, pick-high, picked, none-left, may-take, taken-less, undecided, goes-on, ended-none, ended-undecided}
 use Rattle.core.proofs.run_on.Statement.{statement}
 use Rattle.core.proofs.run_on.Tie as tie
-use Rattle.core.proofs.run_on.Reads as reads
-use Rattle.core.proofs.run_on.Lts as lts
-use Rattle.core.proofs.decided_by.Reads as decided-by-reads
-use Rattle.core.proofs.pick.Reads as pick-reads
-use Rattle.core.proofs.take_row.Reads as take-row-reads
 
 abbrev Inv-loop : tie.InvT-loop
 Inv-loop release length due n s₀ s = Toward (columns release length due) n s₀ s
@@ -71,7 +66,7 @@ loop-less c =
     let l = c .before .before .before .before .before .before .before .before .before .before .loop in
     let small = c .before .before .before .before .before .before .before .before .before .before .before .pre .1 .0 in
     let m = picked job (a .n) small (l .s) (l .inv .going) (c .before .before .before .before .before .before .before .pick .result) (c .before .before .before .before .before .before .before .pick .ensures (a .length .now)) (c .before .before .before .before .before .before .if1 .left) in
-    omega (arith, room job (a .n) small (l .s) (l .inv .going) (c .before .before .before .before .before .before .before .pick .result) m, ap (λ (u : State). u .count) (c .take-row .ensures))
+    taken-less job (a .n) small (l .s) (l .inv .going) (c .before .before .before .before .before .before .before .pick .result) m (c .take-row .result) (c .take-row .ensures)
 
 loop-again : tie.Need-loop-again Inv-loop μ-loop
 loop-again c =

@@ -1,3 +1,5 @@
+-- `take_row` meets its contract: the desk moves on, and the row is marked and stands next in the order.
+-- Assumes nothing.
 use borrow.Author.Needs.{needs}
 use Prim.Native.Nat.{_+_}
 use mathlib.Core.Path.{ap}
@@ -7,9 +9,6 @@ use lib.ListN.{set}
 use Rattle.schedule.specs.declared.Desk.{Desk}
 use Rattle.core.proofs.take_row.Statement.{statement}
 use Rattle.core.proofs.take_row.Tie as tie
-use Rattle.core.proofs.take_row.Reads as reads
-use Rattle.core.proofs.take_row.Lts as lts
-use Rattle.schedule.proofs.Desk.take.Reads as take-reads
 
 mul-take : tie.Need-mul-take
 mul-take c = search needs

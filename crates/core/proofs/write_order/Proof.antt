@@ -1,3 +1,5 @@
+-- `write_order` meets its contract: the entries passed are those of the order, and the others are as they were.
+-- Assumes nothing.
 use borrow.Author.Needs.{needs}
 use Prim.Native.Nat.{ℕ, _≤_, _-_}
 use mathlib.Core.Path.{_≡_, refl, ap, _∙_}
@@ -7,8 +9,6 @@ use lib.ListN.{length, take, drop, set, getD}
 use Rattle.core.proofs.Orders.{copy-more}
 use Rattle.core.proofs.write_order.Statement.{statement}
 use Rattle.core.proofs.write_order.Tie as tie
-use Rattle.core.proofs.write_order.Reads as reads
-use Rattle.core.proofs.write_order.Lts as lts
 
 abbrev Inv-loop : tie.InvT-loop
 Inv-loop order k out₀ i₀ out i = (i ≤ k) × (length out ≡ length out₀) × (out ≡ take i order ++ drop i out₀)

@@ -1,0 +1,11 @@
+pub mod Signed
+pub mod Tests
+pub mod Scans
+pub mod Tables
+pub mod Reached
+pub mod Whole
+pub mod Readings
+pub mod Places
+pub mod Accepted
+pub mod Numbered
+pub mod Examples

@@ -1,0 +1,95 @@
+-- A refused book is refused with one of the numbers 1 to 8.
+-- Assumes nothing.
+use Prim.Native.Nat.{ℕ, zero, suc, _+_, _≤_}
+use native.Mathlib.Omega.{arith}
+use mathlib.Core.Bool.{Bool, true, false}
+use mathlib.Core.Path.{_≡_, refl, subst}
+use mathlib.Core.List.{List, [], _∷_, _++_}
+use lib.ListN.{length, drop}
+use Rattle.schedule.specs.declared.Row.{Row}
+use Rattle.book.specs.declared.Tested.{Tested}
+use Rattle.book.specs.declared.Tested.the-variants.{Passed, Refused}
+use Rattle.book.specs.Refusals.{refuseIf, _then_}
+use Rattle.book.specs.Words.{value, word, kindTests, wordTests}
+use Rattle.book.specs.Rows.{Contents, refused, accepted, refusedOr, numbersOf, numberTests, rowTests, rowOf, endStands, endTests, readRows}
+use Rattle.book.specs.Order.{orderTests}
+use Rattle.book.specs.Book.{headTests, inOrder, readBook}
+
+-- The number of a refusal, of tests and of what a book gives.
+abbrev InTable : ℕ → Type 0
+InTable n = (1 ≤ n) × (n ≤ 8)
+
+abbrev Numbered : Tested → Type 0
+Numbered Passed = Unit {0}
+Numbered (Refused n p) = InTable n
+
+abbrev NumberedBook : Contents → Type 0
+NumberedBook (refused n p) = InTable n
+NumberedBook (accepted free rows) = Unit {0}
+
+by-test : {n : ℕ} (b : Bool) (p : ℕ) → InTable n → Numbered (refuseIf b n p)
+unfolding refuseIf
+by-test true p h = h
+by-test false p h = tt
+
+by-either : (a b : Tested) → Numbered a → Numbered b → Numbered (a then b)
+unfolding _then_
+by-either Passed b h k = k
+by-either (Refused n p) b h k = h
+
+by-contents : (o : Tested) (c : Contents) → Numbered o → NumberedBook c → NumberedBook (refusedOr o c)
+by-contents Passed c h k = k
+by-contents (Refused n p) c h k = h
+
+kinds : (k place : ℕ) (ws : List ℕ) (i : ℕ) → Numbered (kindTests k place ws i)
+unfolding kindTests
+kinds k place ws i = by-either _ _ (by-test _ _ (omega arith, omega arith)) (by-test _ _ (omega arith, omega arith))
+
+words : (k lo hi place : ℕ) (ws : List ℕ) (i : ℕ) → Numbered (wordTests k lo hi place ws i)
+unfolding wordTests
+words k lo hi place ws i = by-either _ _ (kinds k place ws i) (by-test _ _ (omega arith, omega arith))
+
+numbers : (ns : List ℕ) (place : ℕ) (ws : List ℕ) → Numbered (numberTests ns place ws)
+unfolding numberTests
+numbers ns place ws =
+    by-either _ _ (kinds 3 place ws 0) (by-either _ _ (by-test _ _ (omega arith, omega arith)) (by-test _ _ (omega arith, omega arith)))
+
+row : (ns : List ℕ) (place : ℕ) (ws : List ℕ) → Numbered (rowTests ns place ws)
+unfolding rowTests
+row ns place ws =
+    by-either _ _ (numbers ns place ws)
+    (by-either _ _ (words 4 0 10000000 place ws 1) (by-either _ _ (words 5 1 2000 place ws 2) (words 6 0 20000000 place ws 3)))
+
+ends : (count place : ℕ) (ws : List ℕ) → Numbered (endTests count place ws)
+unfolding endTests
+ends count place ws = by-either _ _ (by-test _ _ (omega arith, omega arith)) (by-test _ _ (omega arith, omega arith))
+
+rows-read : (n free pace : ℕ) (rows : List Row) (place : ℕ) (ws : List ℕ) → NumberedBook (readRows n free pace rows place ws)
+unfolding readRows
+rows-read zero free pace rows place ws = (omega arith, omega arith)
+rows-read (suc n) free pace rows place ws = step (endStands (length rows) ws) (rows-read n free pace (rows ++ (rowOf pace ws ∷ [])) (place + 4) (drop 4 ws))
+  where
+    step : (b : Bool) → NumberedBook (readRows n free pace (rows ++ (rowOf pace ws ∷ [])) (place + 4) (drop 4 ws)) →
+        NumberedBook (elim b [
+          | true ↦ refusedOr (endTests (length rows) place ws) (accepted free rows)
+          | false ↦ refusedOr (rowTests (numbersOf rows) place ws) (readRows n free pace (rows ++ (rowOf pace ws ∷ [])) (place + 4) (drop 4 ws))
+        ])
+    step true h = by-contents (endTests (length rows) place ws) (accepted free rows) (ends (length rows) place ws) tt
+    step false h = by-contents (rowTests (numbersOf rows) place ws) (readRows n free pace (rows ++ (rowOf pace ws ∷ [])) (place + 4) (drop 4 ws)) (row (numbersOf rows) place ws) h
+
+order : (place : ℕ) (rows : List Row) → Numbered (orderTests place rows)
+unfolding orderTests
+order place [] = tt
+order place (r ∷ []) = tt
+order place (r ∷ s ∷ rows) = by-either _ _ (by-test _ _ (omega arith, omega arith)) (order (place + 4) (s ∷ rows))
+
+ordered : (c : Contents) → NumberedBook c → NumberedBook (inOrder c)
+unfolding inOrder
+ordered (refused n p) h = h
+ordered (accepted free rows) h = by-contents (orderTests 2 rows) (accepted free rows) (order 2 rows) tt
+
+pub book-numbered : (ws : List ℕ) (n p : ℕ) → readBook ws ≡ refused n p → (1 ≤ n) × (n ≤ 8)
+unfolding readBook headTests
+book-numbered ws n p e =
+    subst NumberedBook e (by-contents (headTests ws) _ (by-either _ _ (words 1 0 10000000 0 ws 0) (words 2 4 120 0 ws 1))
+    (ordered _ (rows-read 257 (value (word ws 0)) (value (word ws 1)) [] 2 (drop 2 ws))))

@@ -1,0 +1,119 @@
+-- `read` meets its contract: the head, the rows, then the order, as `readBook` has them.
+-- Assumes nothing.
+use denote.Ref.{now}
+use native.Mathlib.Omega.{arith}
+use mathlib.Core.Path.{_≡_, ap, sym, _∙_}
+use lib.ListN.{drop}
+use borrow.Author.Needs.{needs}
+use Rattle.book.specs.declared.Tested.{Tested}
+use Rattle.book.specs.declared.Tested.the-variants.{Passed, Refused}
+use Rattle.book.specs.declared.Table.{Table}
+use Rattle.book.specs.declared.Reading.{Reading}
+use Rattle.book.specs.Words.{value, word}
+use Rattle.book.specs.Order.{orderTests}
+use Rattle.book.specs.Book.{inOrder, readBook, tableRows, readingOf, settledOf}
+use Rattle.book.proofs.Tests.{HeadFit, head-fits}
+use Rattle.book.proofs.Whole.{bookRows}
+use Rattle.book.proofs.Readings.{head-refused, head-passed, order-refused, order-settled, rows-few}
+use Rattle.book.proofs.read.Statement.{statement}
+use Rattle.book.proofs.read.Tie as tie
+
+-- The free minute and the pace are in range; what the rows give; the order is left.
+fits : (c : tie.After-enum-told) → HeadFit (now (c .before .before .before .before .args .book))
+fits c = head-fits (now (c .before .before .before .before .args .book)) (sym (c .before .before .head-tests .ensures) ∙ c .enum-told .given .1)
+
+rows : (c : tie.After-read-rows) → c .read-rows .result ≡ readingOf (bookRows (now (c .before .before .before .before .before .before .before .before .before .args .book)))
+rows c = cc
+
+left : (c : tie.After-read-rows) → readBook (now (c .before .before .before .before .before .before .before .before .before .args .book)) ≡ inOrder (bookRows (now (c .before .before .before .before .before .before .before .before .before .args .book)))
+left c =
+    let h = c .before .before .before .before .before .before .before .head-tests in
+    head-passed (now (c .before .before .before .before .before .before .before .before .before .args .book)) (h .result) (h .ensures) (c .before .before .before .before .before .enum-told .given .1)
+
+head-tests-requires : tie.Need-head-tests-requires
+head-tests-requires c κs = search needs
+
+enum-told : tie.Need-enum-told
+enum-told c = search needs
+
+enum-told-2 : tie.Need-enum-told-2
+enum-told-2 c = search needs
+
+refused-requires : tie.Need-refused-requires
+refused-requires c κs = search needs
+
+returns : tie.Need-returns
+returns c =
+    let h = c .before .before .before .head-tests in
+    let g = c .before .enum-told2 .given in
+    c .refused .ensures ∙ head-refused (now (c .before .before .before .before .before .args .book)) (h .result) (g .0 .0) (g .0 .1 .0) (h .ensures) (g .1)
+
+word-at-requires : tie.Need-word-at-requires
+word-at-requires c κs = search needs
+
+value-of-requires : tie.Need-value-of-requires
+value-of-requires c κs = search needs
+
+word-at-requires-2 : tie.Need-word-at-requires-2
+word-at-requires-2 c κs = search needs
+
+value-of-requires-2 : tie.Need-value-of-requires-2
+value-of-requires-2 c κs = search needs
+
+read-rows-requires : tie.Need-read-rows-requires
+read-rows-requires c κs =
+    let f = fits (c .before .before .before .before) in
+    let p : c .value-of2 .result ≡ value (word (now (c .before .before .before .before .before .before .before .before .args .book)) 1) = cc in
+    (omega (arith, f .pace .there), omega (arith, f .pace .least), omega (arith, f .pace .most))
+
+enum-told-3 : tie.Need-enum-told-3
+enum-told-3 c = search needs
+
+enum-told-4 : tie.Need-enum-told-4
+enum-told-4 c = search needs
+
+returns-2 : tie.Need-returns-2
+returns-2 c =
+    let r = c .before .before in
+    let g = c .enum-told4 .given in
+    let x = bookRows (now (r .before .before .before .before .before .before .before .before .before .args .book)) in
+    let e : readingOf x .outcome ≡ Refused (g .0 .0) (g .0 .1 .0) = sym (ap (λ (z : Reading). z .outcome) (rows r)) ∙ g .1 in
+    rows r ∙ order-refused x (g .0 .0) (g .0 .1 .0) e ∙ ap readingOf (sym (left r))
+
+order-tests-requires : tie.Need-order-tests-requires
+order-tests-requires c κs =
+    let r = c .before .before .before in
+    rw (rows r) (rows-few (value (word (now (r .before .before .before .before .before .before .before .before .before .args .book)) 0)) (value (word (now (r .before .before .before .before .before .before .before .before .before .args .book)) 1)) (drop 2 (now (r .before .before .before .before .before .before .before .before .before .args .book))) (fits (r .before .before .before .before .before) .pace .least))
+
+settled-requires : tie.Need-settled-requires
+settled-requires c κs = search needs
+
+returns-3 : tie.Need-returns-3
+returns-3 c =
+    let r = c .before .before .before .before .before in
+    let x = bookRows (now (r .before .before .before .before .before .before .before .before .before .args .book)) in
+    let a : readingOf x .outcome ≡ Passed = sym (ap (λ (z : Reading). z .outcome) (rows r)) ∙ c .before .before .before .enum-told3 .given .1 in
+    let t : r .read-rows .result .table ≡ readingOf x .table = ap (λ (z : Reading). z .table) (rows r) in
+    c .settled .ensures ∙ ap (λ (o : Tested). settledOf o (r .read-rows .result .table)) (c .before .order-tests .ensures)
+    ∙ ap (λ (u : Table). settledOf (orderTests 2 (tableRows u)) u) t ∙ order-settled x a ∙ ap readingOf (sym (left r))
+
+pub read-spec : {M : Type 1} → statement M
+read-spec =
+    tie.close
+    (tie.spec
+    head-tests-requires
+    enum-told
+    enum-told-2
+    refused-requires
+    returns
+    word-at-requires
+    value-of-requires
+    word-at-requires-2
+    value-of-requires-2
+    read-rows-requires
+    enum-told-3
+    enum-told-4
+    returns-2
+    order-tests-requires
+    settled-requires
+    returns-3)

@@ -1,0 +1,22 @@
+-- What is known of an accepted book: its rows agree, and every number is in its range. The proof is `accepted-book`, in proofs/Accepted.antt.
+-- Rests on: the schedule's Rows and Promise.
+use Prim.Native.Nat.{ℕ, _≤_, _<_}
+use mathlib.Core.List.{List, List·Memᴰ}
+use lib.ListN.{length}
+use Rattle.schedule.specs.declared.Row.{Row}
+use Rattle.schedule.specs.Rows.{row, job, allRows}
+use Rattle.schedule.specs.Promise.{Agreeing}
+
+pub record AcceptedBook (free : ℕ) (rows : List Row) : Type 0 where
+  -- Of two rows the one due later has no more spare.
+  pub agree : Agreeing (job rows) (allRows rows)
+  -- The free minute.
+  pub early : free ≤ 10000000
+  -- 1 to 256 rows.
+  pub some-row : 0 < length rows
+  pub few-rows : length rows ≤ 256
+  -- Release, length and due of each row. Length lies between 1 and 30,000.
+  pub ranged : (i : ℕ) → List·Memᴰ i (allRows rows) →
+      (row rows i .release ≤ 10000000) × (1 ≤ row rows i .length) × (row rows i .length ≤ 30000) × (row rows i .due ≤ 20000000)
+  -- The same limits for every number, also one that no row has.
+  pub limits : (i : ℕ) → (row rows i .release ≤ 10000000) × (row rows i .length ≤ 30000) × (row rows i .due ≤ 20000000)

@@ -1,0 +1,444 @@
+// The reader: turns a lent book of 32-bit words into the table of its rows, or refuses it with a number and a place.
+ghost use mathlib.Core.Path.{_≡_};
+ghost use Prim.Native.Nat.{_≤_, _<_};
+ghost use mathlib.Core.List.{[]};
+ghost use lib.ListN.{length, take, drop};
+ghost use Rattle.book.specs.Refusals.{refuseIf, _then_};
+ghost use Rattle.book.specs.Words.{kind, value, word, outside, kindTests, wordTests};
+ghost use Rattle.book.specs.Rows.{stands, numberTests, dueTests, rowTests, lengthOf, dueOf, rowOf, rowReadOf, endStands, endTests, readRows};
+ghost use Rattle.book.specs.Order.{disordered, orderTests};
+ghost use Rattle.book.specs.Book.{headTests, readBook, tableOf, tableRows, readingOf, settledOf, rowPlace, rowWords};
+use schedule::Desk;
+use schedule::Row;
+
+// Tests are passed, or a call is refused: the number and the place of the table of refusals.
+pub enum Tested {
+    Passed,
+    Refused(u32, usize),
+}
+
+// The rows that a book gives, with the free minute of the desk. Places from `count` on hold no row.
+pub struct Table {
+    pub free: u32,
+    pub count: usize,
+    pub rows: [Row; Desk::ROWS],
+}
+
+// The answer of the reader. The table of a refused book is empty.
+pub struct Reading {
+    pub outcome: Tested,
+    pub table: Table,
+}
+
+// The answer of the row reader: the row that its words make, or the refusal.
+enum RowRead {
+    Whole(Row),
+    Refused(u32, usize),
+}
+
+// The place of a row's number word, or the refusal.
+pub enum Found {
+    At(usize),
+    Refused(u32, usize),
+}
+
+// The numbers of the table of refusals.
+impl Tested {
+    pub const CUT: u32 = 1;
+
+    pub const KIND: u32 = 2;
+
+    pub const RANGE: u32 = 3;
+
+    pub const TWICE: u32 = 4;
+
+    pub const FULL: u32 = 5;
+
+    pub const COUNT: u32 = 6;
+
+    pub const TAIL: u32 = 7;
+
+    pub const DISORDER: u32 = 8;
+
+    pub const NARROW: u32 = 9;
+
+    pub const NOT_POSTING: u32 = 10;
+
+    pub const UNLISTED: u32 = 11;
+
+    pub const UNKEPT: u32 = 12;
+}
+
+impl Table {
+    // The most pages of a row.
+    pub const PAGES: u32 = 2_000;
+
+    // The least and the most pace, in pages an hour.
+    pub const LEAST_PACE: u32 = 4;
+
+    pub const MOST_PACE: u32 = 120;
+
+    // No row in any place.
+    fn empty(free: u32) -> Table
+        ensures { λ r. ⌜ r ≡ tableOf free [] ⌝ }
+    {
+        let none = Row {
+            number: 0,
+            release: 0,
+            length: 0,
+            due: 0,
+        };
+        Table {
+            free: free,
+            count: 0,
+            rows: [none; Desk::ROWS],
+        }
+    }
+}
+
+// One test: where it is true, the refusal.
+pub fn refuse_if(test: bool, number: u32, place: usize) -> Tested
+    ensures { λ r. ⌜ r ≡ refuseIf test number place ⌝ }
+{
+    if test {
+        Tested::Refused(number, place)
+    } else {
+        Tested::Passed
+    }
+}
+
+// Tests in sequence: the first refusal counts.
+pub fn then(first: Tested, next: Tested) -> Tested
+    ensures { λ r. ⌜ r ≡ (first then next) ⌝ }
+{
+    match first {
+        Tested::Passed => next,
+        Tested::Refused(_, _) => first,
+    }
+}
+
+// The top three bits of a word, and the low 29.
+fn kind_of(w: u32) -> u32
+    ensures { λ r. ⌜ r ≡ kind w ⌝ }
+{
+    w / 536_870_912
+}
+
+fn value_of(w: u32) -> u32
+    ensures { λ r. ⌜ r ≡ value w ⌝ }
+{
+    w % 536_870_912
+}
+
+// Below, `rest` is the book from `place` on: what is still to be read. The last place where a row can begin is word 1,026, which opens row 257.
+
+// A word of the rest, 0 past its end: so that the tests at a word can be written out before the first refusal is known.
+fn word_at(rest: &[u32], i: usize) -> u32
+    ensures { λ r. ⌜ r ≡ word (now (rest .entry)) i ⌝ }
+{
+    if i < rest.len() { rest[i] } else { 0 }
+}
+
+fn is_outside(v: u32, lo: u32, hi: u32) -> bool
+    ensures { λ r. ⌜ r ≡ outside v lo hi ⌝ }
+{
+    if v < lo { true } else { hi < v }
+}
+
+// Cut and kind at a word of the rest.
+fn kind_tests(kind: u32, place: usize, rest: &[u32], i: usize) -> Tested
+    requires { ⌜ (place ≤ 1026) × (i < 4) ⌝ }
+    ensures { λ r. ⌜ r ≡ kindTests kind place (now (rest .entry)) i ⌝ }
+{
+    let cut = refuse_if(rest.len() <= i, Tested::CUT, place + rest.len());
+    let other = kind_of(word_at(rest, i)) != kind;
+    then(cut, refuse_if(other, Tested::KIND, place + i))
+}
+
+// Cut, kind and range at a word of the rest.
+fn word_tests(kind: u32, lo: u32, hi: u32, place: usize, rest: &[u32], i: usize) -> Tested
+    requires { ⌜ (place ≤ 1026) × (i < 4) ⌝ }
+    ensures { λ r. ⌜ r ≡ wordTests kind lo hi place (now (rest .entry)) i ⌝ }
+{
+    let due = kind_tests(kind, place, rest, i);
+    let v = value_of(word_at(rest, i));
+    then(
+        due,
+        refuse_if(is_outside(v, lo, hi), Tested::RANGE, place + i),
+    )
+}
+
+// The number stands among the first `count` numbers.
+fn number_stands(numbers: &[u32; Desk::ROWS], count: usize, number: u32) -> bool
+    requires { ⌜ (count ≤ 256) × (length (now numbers) ≡ 256) ⌝ }
+    ensures { λ r. ⌜ r ≡ stands number (take count (now (numbers .entry))) ⌝ }
+{
+    let mut i = 0;
+    while i < count {
+        if number == numbers[i] {
+            return true;
+        }
+        i += 1;
+    }
+    false
+}
+
+// Cut, kind, full and twice at a number word.
+fn number_tests(numbers: &[u32; Desk::ROWS], count: usize, place: usize, rest: &[u32]) -> Tested
+    requires { ⌜ (place ≤ 1026) × (count ≤ 256) × (length (now numbers) ≡ 256) ⌝ }
+    ensures { λ r. ⌜ r ≡ numberTests (take count (now (numbers .entry))) place (now (rest .entry)) ⌝ }
+{
+    let due = kind_tests(3, place, rest, 0);
+    let full = refuse_if(Desk::ROWS <= count, Tested::FULL, place);
+    let number = value_of(word_at(rest, 0));
+    let stands = number_stands(numbers, count, number);
+    let twice = refuse_if(stands, Tested::TWICE, place);
+    then(due, then(full, twice))
+}
+
+// The tests of the due word.
+fn due_tests(place: usize, rest: &[u32]) -> Tested
+    requires { ⌜ place ≤ 1026 ⌝ }
+    ensures { λ r. ⌜ r ≡ dueTests place (now (rest .entry)) ⌝ }
+{
+    word_tests(6, 0, Desk::DUES, place, rest, 3)
+}
+
+// The tests of a row's four words.
+fn row_tests(numbers: &[u32; Desk::ROWS], count: usize, place: usize, rest: &[u32]) -> Tested
+    requires { ⌜ (place ≤ 1026) × (count ≤ 256) × (length (now numbers) ≡ 256) ⌝ }
+    ensures { λ r. ⌜ r ≡ rowTests (take count (now (numbers .entry))) place (now (rest .entry)) ⌝ }
+{
+    let number = number_tests(numbers, count, place, rest);
+    let release = word_tests(4, 0, Desk::MINUTES, place, rest, 1);
+    let pages = word_tests(5, 1, Table::PAGES, place, rest, 2);
+    let due = due_tests(place, rest);
+    then(number, then(release, then(pages, due)))
+}
+
+// Length: pages × 60 divided by pace, rounded up.
+fn length_of(pages: u32, pace: u32) -> u32
+    requires { ⌜ (pages ≤ 2000) × (4 ≤ pace) × (pace ≤ 120) ⌝ }
+    ensures { λ r. ⌜ r ≡ lengthOf pages pace ⌝ }
+{
+    (pages * 60 + (pace - 1)) / pace
+}
+
+// Due: the value of the due word.
+fn due_of(rest: &[u32]) -> u32
+    ensures { λ r. ⌜ r ≡ dueOf (now (rest .entry)) ⌝ }
+{
+    value_of(word_at(rest, 3))
+}
+
+// The row that the first four words of the rest make.
+fn row_of(pace: u32, rest: &[u32]) -> Row
+    requires { ⌜ (value (word (now rest) 2) ≤ 2000) × (4 ≤ pace) × (pace ≤ 120) ⌝ }
+    ensures { λ r. ⌜ r ≡ rowOf pace (now (rest .entry)) ⌝ }
+{
+    let number = value_of(word_at(rest, 0));
+    let release = value_of(word_at(rest, 1));
+    let length = length_of(value_of(word_at(rest, 2)), pace);
+    let due = due_of(rest);
+    Row {
+        number: number,
+        release: release,
+        length: length,
+        due: due,
+    }
+}
+
+// The row reader: the row that stands at the start of the rest, after `count` rows with these numbers, or the refusal.
+fn read_row(
+    numbers: &[u32; Desk::ROWS],
+    count: usize,
+    pace: u32,
+    place: usize,
+    rest: &[u32],
+) -> RowRead
+    requires { ⌜ (place ≤ 1026) × (count ≤ 256) × (length (now numbers) ≡ 256) × (4 ≤ pace) × (pace ≤ 120) ⌝ }
+    ensures { λ r. ⌜ r ≡ rowReadOf (rowTests (take count (now (numbers .entry))) place (now (rest .entry))) (rowOf pace (now (rest .entry))) ⌝ }
+{
+    let tested = row_tests(numbers, count, place, rest);
+    match tested {
+        Tested::Passed => RowRead::Whole(row_of(pace, rest)),
+        Tested::Refused(n, p) => RowRead::Refused(n, p),
+    }
+}
+
+// The end word stands at the start of the rest. It may stand only after a whole row.
+fn end_stands(count: usize, rest: &[u32]) -> bool
+    ensures { λ r. ⌜ r ≡ endStands count (now (rest .entry)) ⌝ }
+{
+    if 0 < count {
+        if 0 < rest.len() {
+            return kind_of(rest[0]) == 7;
+        }
+    }
+    false
+}
+
+// Count and tail at the end word.
+fn end_tests(count: usize, place: usize, rest: &[u32]) -> Tested
+    requires { ⌜ (place ≤ 1026) × (count ≤ 256) ⌝ }
+    ensures { λ r. ⌜ r ≡ endTests count place (now (rest .entry)) ⌝ }
+{
+    let told = value_of(word_at(rest, 0)) as usize;
+    then(
+        refuse_if(told != count, Tested::COUNT, place),
+        refuse_if(1 < rest.len(), Tested::TAIL, place + 1),
+    )
+}
+
+// The answer for a refused book.
+fn refused(outcome: Tested) -> Reading
+    ensures { λ r. ⌜ r ≡ record { outcome = outcome; table = tableOf 0 [] } ⌝ }
+{
+    let none = Table::empty(0);
+    Reading {
+        outcome: outcome,
+        table: none,
+    }
+}
+
+// The table, unless the tests refuse it.
+fn settled(outcome: Tested, table: Table) -> Reading
+    ensures { λ r. ⌜ r ≡ settledOf outcome table ⌝ }
+{
+    match outcome {
+        Tested::Passed => Reading {
+            outcome: outcome,
+            table: table,
+        },
+        Tested::Refused(_, _) => refused(outcome),
+    }
+}
+
+// The rows and the end, from word 2 on. After each row the rest of the book is read on as a part of its own.
+// The order numbers stand in a column beside the table, which the row reader is lent instead of the table.
+fn read_rows(free: u32, pace: u32, book: &[u32]) -> Reading
+    requires { ⌜ (2 ≤ length (now book)) × (4 ≤ pace) × (pace ≤ 120) ⌝ }
+    ensures { λ r. ⌜ r ≡ readingOf (readRows 257 free pace [] 2 (drop 2 (now (book .entry)))) ⌝ }
+{
+    let mut table = Table::empty(free);
+    let mut numbers: [u32; Desk::ROWS] = [0; Desk::ROWS];
+    let mut at: usize = 2;
+    loop {
+        let count = table.count;
+        let rest = &book[at..];
+        if end_stands(count, rest) {
+            return settled(end_tests(count, at, rest), table);
+        }
+        match read_row(&numbers, count, pace, at, rest) {
+            RowRead::Whole(row) => {
+                numbers[count] = row.number;
+                table.rows[count] = row;
+                table.count = count + 1;
+            }
+            RowRead::Refused(n, p) => {
+                return refused(Tested::Refused(n, p));
+            }
+        }
+        at += 4;
+    }
+}
+
+// So wide that the sums below fit.
+fn wide(x: u32) -> u64
+    ensures { λ r. ⌜ r ≡ x ⌝ }
+{
+    x as u64
+}
+
+// From row r to the row s below it due falls or spare rises. Spares are compared by crossed sums, so that no difference is taken.
+fn is_disordered(r: Row, s: Row) -> bool
+    ensures { λ b. ⌜ b ≡ disordered r s ⌝ }
+{
+    if s.due < r.due {
+        return true;
+    }
+    wide(r.due) + (wide(s.release) + wide(s.length))
+        < wide(s.due) + (wide(r.release) + wide(r.length))
+}
+
+// Disorder in the rows of a table.
+fn order_tests(table: Table) -> Tested
+    requires { ⌜ table .count ≤ 256 ⌝ }
+    ensures { λ r. ⌜ r ≡ orderTests 2 (tableRows table) ⌝ }
+{
+    let count = table.count;
+    let mut i = 0;
+    while i + 1 < count {
+        let r = table.rows[i];
+        let s = table.rows[i + 1];
+        if is_disordered(r, s) {
+            let place = 4 * i + 6;
+            return Tested::Refused(Tested::DISORDER, place);
+        }
+        i += 1;
+    }
+    Tested::Passed
+}
+
+// The tests of the free minute and the pace.
+fn head_tests(book: &[u32]) -> Tested
+    ensures { λ r. ⌜ r ≡ headTests (now (book .entry)) ⌝ }
+{
+    let free = word_tests(1, 0, Desk::MINUTES, 0, book, 0);
+    let pace = word_tests(2, Table::LEAST_PACE, Table::MOST_PACE, 0, book, 1);
+    then(free, pace)
+}
+
+// The table of a book, or the refusal.
+pub fn read(book: &[u32]) -> Reading
+    ensures { λ r. ⌜ r ≡ readingOf (readBook (now (book .entry))) ⌝ }
+{
+    let head = head_tests(book);
+    let Tested::Passed = head else {
+        return refused(head);
+    };
+    let free = value_of(word_at(book, 0));
+    let pace = value_of(word_at(book, 1));
+    let all = read_rows(free, pace, book);
+    let outcome = all.outcome;
+    let Tested::Passed = outcome else {
+        return all;
+    };
+    let table = all.table;
+    settled(order_tests(table), table)
+}
+
+// The place of a row's number word, rows counted from 1, or the refusal.
+pub fn row_place(book: &[u32], row: u32) -> Found
+    ensures { λ r. ⌜ r ≡ rowPlace (now (book .entry)) row ⌝ }
+{
+    let all = read(book);
+    let outcome = all.outcome;
+    if let Tested::Refused(n, p) = outcome {
+        return Found::Refused(n, p);
+    }
+    let count = all.table.count;
+    let k = row as usize;
+    let unlisted = Found::Refused(Tested::UNLISTED, count);
+    if k == 0 {
+        return unlisted;
+    }
+    if count < k {
+        return unlisted;
+    }
+    let place = 4 * (k - 1) + 2;
+    Found::At(place)
+}
+
+// The four words of a row, as the part of the caller's book that holds them; empty where the call is refused.
+pub fn row_words<'a>(book: &'a [u32], row: u32) -> &'a [u32]
+    ensures { λ r. ⌜ now r ≡ rowWords (now (book .entry)) row ⌝ }
+{
+    match row_place(book, row) {
+        Found::At(start) => {
+            let end = start + 4;
+            &book[start..end]
+        }
+        Found::Refused(_, _) => &book[0..0],
+    }
+}

@@ -1,0 +1,93 @@
+-- The plans that a list holds: how many, which one stands at a place, and one plan more.
+-- Assumes nothing.
+use Prim.Native.Nat.{ℕ, zero, suc, _+_, _-_, _*_, _≤_, _<_}
+use native.Mathlib.Omega.{arith}
+use mathlib.Core.Path.{_≡_, refl, sym, ap, ap₂, _∙_}
+use mathlib.Core.List.{List, [], _∷_, _++_, map, List·Memᴰ, List·Memᴰ·head, List·Memᴰ·tail}
+use mathlib.Core.Option.{Option, none, some}
+use lib.ListN.{length, take, getD, getElem?}
+use lib.Seq.{take-suc, length-take-le, getD-take}
+use Rattle.schedule.specs.Desk.{Pair}
+use Rattle.schedule.specs.Offset.{raised, lowered}
+use Rattle.core.specs.declared.Front.{Front}
+use Rattle.planner.specs.Calls.{nth}
+use Rattle.planner.specs.Working.{pairAt, pairsOf, held, Sized}
+
+pairs-length : (es ls : List ℕ) → length es ≡ length ls → length (pairsOf es ls) ≡ length es
+unfolding pairsOf
+pairs-length [] [] h = refl
+pairs-length [] (l ∷ ls) h = refl
+pairs-length (e ∷ es) [] h = let z : ⊥ = omega arith in absurd z
+pairs-length (e ∷ es) (l ∷ ls) h = ap suc (pairs-length es ls (omega arith))
+
+pairs-more : (es ls : List ℕ) (e l : ℕ) → length es ≡ length ls → pairsOf (es ++ (e ∷ [])) (ls ++ (l ∷ [])) ≡ pairsOf es ls ++ (pairAt e l ∷ [])
+unfolding pairsOf
+pairs-more [] [] e l h = refl
+pairs-more [] (m ∷ ls) e l h = let z : ⊥ = omega arith in absurd z
+pairs-more (d ∷ es) [] e l h = let z : ⊥ = omega arith in absurd z
+pairs-more (d ∷ es) (m ∷ ls) e l h = ap {B = List Pair} (λ r. pairAt d m ∷ r) (pairs-more es ls e l (omega arith))
+
+pairs-at : (es ls : List ℕ) (i : ℕ) (q : Pair) → length es ≡ length ls → i < length es → getD (pairsOf es ls) i q ≡ pairAt (getD es i 0) (getD ls i 0)
+unfolding pairsOf
+pairs-at [] ls i q h k = let z : ⊥ = omega arith in absurd z
+pairs-at (e ∷ es) [] i q h k = let z : ⊥ = omega arith in absurd z
+pairs-at (e ∷ es) (l ∷ ls) zero q h k = refl
+pairs-at (e ∷ es) (l ∷ ls) (suc i) q h k = pairs-at es ls i q (omega arith) (omega arith)
+
+-- A list of pairs comes back from its ends and its latenesses, raised.
+pub pairs-back : (ps : List Pair) → ((p : Pair) → List·Memᴰ p ps → lowered (raised (p .late)) ≡ p .late) →
+    pairsOf (map (λ (p : Pair). p .end) ps) (map (λ (p : Pair). raised (p .late)) ps) ≡ ps
+unfolding pairsOf
+pairs-back [] h = refl
+pairs-back (p ∷ ps) h = λ i. record { end = p .end; late = h p (List·Memᴰ·head refl) i } ∷ pairs-back ps (λ q m. h q (List·Memᴰ·tail m)) i
+
+-- The first k of two columns.
+module _ (ends lates : List ℕ) (k : ℕ) (h : k ≤ length ends) (g : k ≤ length lates) where
+  even : length (take k ends) ≡ length (take k lates)
+  even = length-take-le k ends h ∙ sym (length-take-le k lates g)
+
+  pub first-length : length (pairsOf (take k ends) (take k lates)) ≡ k
+  first-length = pairs-length (take k ends) (take k lates) even ∙ length-take-le k ends h
+
+  pub first-at : (i : ℕ) (q : Pair) → i < k → getD (pairsOf (take k ends) (take k lates)) i q ≡ pairAt (getD ends i 0) (getD lates i 0)
+  first-at i q l =
+      pairs-at (take k ends) (take k lates) i q even (omega (arith, length-take-le k ends h)) ∙
+      ap₂ pairAt (getD-take k ends i 0 l) (getD-take k lates i 0 l)
+
+pub first-more : (ends lates : List ℕ) (k : ℕ) → k < length ends → k < length lates →
+    pairsOf (take (suc k) ends) (take (suc k) lates) ≡ pairsOf (take k ends) (take k lates) ++ (pairAt (getD ends k 0) (getD lates k 0) ∷ [])
+first-more ends lates k h g =
+    ap₂ pairsOf (take-suc ends k 0 h) (take-suc lates k 0 g) ∙
+    pairs-more (take k ends) (take k lates) (getD ends k 0) (getD lates k 0) (even ends lates k (omega arith) (omega arith))
+
+module _ (f : Front) (s : Sized f) where
+  pub held-length : length (held f) ≡ f .count
+  held-length = first-length (f .ends) (f .lates) (f .count) (omega (arith, s .few, s .ends)) (omega (arith, s .few, s .lates))
+
+  pub held-at : (i : ℕ) (q : Pair) → i < f .count → getD (held f) i q ≡ pairAt (getD (f .ends) i 0) (getD (f .lates) i 0)
+  held-at = first-at (f .ends) (f .lates) (f .count) (omega (arith, s .few, s .ends)) (omega (arith, s .few, s .lates))
+
+-- The k-th of a list, counted from 1.
+elem-in : (ps : List Pair) (i : ℕ) (q : Pair) → i < length ps → getElem? ps i ≡ some (getD ps i q)
+elem-in [] i q h = let z : ⊥ = omega arith in absurd z
+elem-in (p ∷ ps) zero q h = refl
+elem-in (p ∷ ps) (suc i) q h = elem-in ps i q (omega arith)
+
+elem-out : (ps : List Pair) (i : ℕ) → length ps ≤ i → getElem? ps i ≡ none
+elem-out [] i h = refl
+elem-out (p ∷ ps) zero h = let z : ⊥ = omega arith in absurd z
+elem-out (p ∷ ps) (suc i) h = elem-out ps i (omega arith)
+
+pub nth-in : (ps : List Pair) (k : ℕ) (q : Pair) → 1 ≤ k → k ≤ length ps → nth ps k ≡ some (getD ps (k - 1) q)
+unfolding nth
+nth-in ps zero q h l = let z : ⊥ = omega arith in absurd z
+nth-in ps (suc k) q h l = let e : k ≡ suc k - 1 = omega arith in elem-in ps k q (omega arith) ∙ ap (λ (i : ℕ). some (getD ps i q)) e
+
+pub nth-zero : (ps : List Pair) → nth ps 0 ≡ none
+unfolding nth
+nth-zero ps = refl
+
+pub nth-out : (ps : List Pair) (k : ℕ) → length ps < k → nth ps k ≡ none
+unfolding nth
+nth-out ps zero h = refl
+nth-out ps (suc k) h = elem-out ps k (omega arith)

@@ -1,0 +1,10 @@
+pub mod Posting
+pub mod CallLaws
+pub mod Promise
+pub mod Memory
+pub mod Apart
+pub mod Held
+pub mod Words
+pub mod Verdicts
+pub mod Plannings
+pub mod Answered

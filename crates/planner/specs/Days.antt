@@ -1,0 +1,165 @@
+-- The days worked through, M1 to M13: a table of questions and expected answers, and the theorem that every entry holds of the definitions.
+-- Rests on: Calls, Lines, the book.
+use Prim.Native.Nat.{ℕ, _+_, _*_}
+use mathlib.Core.Path.{_≡_, refl, sym, ap, _∙_}
+use mathlib.Core.List.{List, [], _∷_, _++_, map, List·Memᴰ, List·Memᴰ·head, List·Memᴰ·tail, head-eq-of-cons-eq, tail-eq-of-cons-eq}
+use lib.ListN.{length}
+use lib.IntN.{ℤ, pos, negsuc}
+use Rattle.schedule.specs.Rows.{openRows}
+use Rattle.schedule.specs.Desk.{openDesk}
+use Rattle.schedule.specs.Picks.{openPicks}
+use Rattle.schedule.specs.Plans.{openPlans}
+use Rattle.book.specs.declared.Found.{Found}
+use Rattle.book.specs.declared.Found.the-variants as found
+use Rattle.book.specs.Refusals.{openRefusals}
+use Rattle.book.specs.Rows.{Contents, refused, accepted}
+use Rattle.book.specs.Rows.{lengthOf as lengthFor}
+use Rattle.book.specs.Book.{readBook, rowPlace, rowWords, openBook}
+use Rattle.planner.specs.declared.Listed.{Listed}
+use Rattle.planner.specs.declared.Listed.the-variants as listed
+use Rattle.planner.specs.declared.Ordered.{Ordered}
+use Rattle.planner.specs.declared.Ordered.the-variants as ordered
+use Rattle.planner.specs.declared.Judged.{Judged}
+use Rattle.planner.specs.declared.Judged.the-variants as judged
+use Rattle.planner.specs.Posting.{openPosting}
+use Rattle.planner.specs.Calls.{Outcome, gives, listCall, boundCall, planCall, verdictCall, openCalls}
+use Rattle.planner.specs.Lines.{Line, Printed, refusal, listing, printed, openLines}
+
+-- A row of a book as the days give it: number, release, pages, due.
+pub data Entry : Type 0 where
+  entry : ℕ → ℕ → ℕ → ℕ → Entry
+
+-- A word of a kind and a value, and the words of a book.
+abbrev pub wordOf : ℕ → ℕ → ℕ
+wordOf k v = k * 536870912 + v
+
+abbrev pub entryWords : List Entry → List ℕ
+entryWords [] = []
+entryWords (entry n r p d ∷ es) = wordOf 3 n ∷ wordOf 4 r ∷ wordOf 5 p ∷ wordOf 6 d ∷ entryWords es
+
+abbrev pub book : (free pace : ℕ) → List Entry → List ℕ
+book free pace es = wordOf 1 free ∷ wordOf 2 pace ∷ (entryWords es ++ (wordOf 7 (length es) ∷ []))
+
+-- M1's book, with the due of row 2 open for M7 and M8; M2 to M6; M9; M10; M13.
+abbrev pub twoRows : ℕ → List ℕ
+twoRows due = book 0 60 (entry 901 1 1 5 ∷ entry 902 0 10 due ∷ [])
+
+abbrev pub threeRows : List ℕ
+threeRows = book 0 60 (entry 901 1 1 5 ∷ entry 902 0 10 12 ∷ entry 903 20 5 27 ∷ [])
+
+abbrev pub oneRow : List ℕ
+oneRow = book 7 60 (entry 901 3 4 10 ∷ [])
+
+abbrev pub equalRows : List ℕ
+equalRows = book 0 60 (entry 901 0 2 5 ∷ entry 902 0 2 5 ∷ [])
+
+abbrev pub fourRows : List ℕ
+fourRows = book 0 60 (entry 901 1 1 5 ∷ entry 902 0 10 12 ∷ entry 903 101 1 104 ∷ entry 904 100 20 122 ∷ [])
+
+-- What is asked: the reading of a book, what slate prints, one of the calls, or a length.
+pub data Asked : Type 0 where
+  reading : List ℕ → Asked
+  printing : List ℕ → Asked
+  list : List ℕ → List ℕ → Asked
+  bound : List ℕ → ℤ → List ℕ → Asked
+  plan : List ℕ → ℕ → List ℕ → Asked
+  posting : List ℕ → List ℕ → Asked
+  wordsOf : List ℕ → ℕ → Asked
+  placeOf : List ℕ → ℕ → Asked
+  lengthOf : (pages pace : ℕ) → Asked
+
+-- What is answered.
+pub data Told : Type 0 where
+  reads : Contents → Told
+  prints : Printed → Told
+  lists : Outcome Listed → Told
+  orders : Outcome Ordered → Told
+  judges : Judged → Told
+  words : List ℕ → Told
+  finds : Found → Told
+  takes : ℕ → Told
+
+abbrev pub answerTo : Asked → Told
+answerTo (reading b) = reads (readBook b)
+answerTo (printing b) = prints (printed b)
+answerTo (list b buffer) = lists (listCall b buffer)
+answerTo (bound b y buffer) = orders (boundCall b y buffer)
+answerTo (plan b k buffer) = orders (planCall b k buffer)
+answerTo (posting b order) = judges (verdictCall b order)
+answerTo (wordsOf b k) = words (rowWords b k)
+answerTo (placeOf b k) = finds (rowPlace b k)
+answerTo (lengthOf pages pace) = takes (lengthFor pages pace)
+
+pub record Day : Type 0 where
+  pub asked : Asked
+  pub told : Told
+
+abbrev pub _gets_ : Asked → Told → Day
+a gets b = record { asked = a; told = b }
+
+infix 10 _gets_
+-- How answers are written in the table: plans with the buffer; an order's end and lateness with the buffer; a refusal with the buffer; a line.
+abbrev pub plans : ℕ → List ℕ → Told
+plans k b = lists (gives (listed.Plans k) b)
+
+abbrev pub order : ℕ → ℤ → List ℕ → Told
+order e y b = orders (gives (ordered.Pair e y) b)
+
+abbrev pub none : ℕ → ℕ → List ℕ → Told
+none n p b = orders (gives (ordered.Refused n p) b)
+
+abbrev pub line : ℕ → ℤ → List ℕ → Line
+line e y ns = record { end = e; late = y; numbers = ns }
+
+abbrev pub days : List Day
+days =
+    -- M1: the two-row book; two plans.
+    (printing (twoRows 12) gets prints (listing 2 (line 11 (pos 6) (902 ∷ 901 ∷ []) ∷ line 12 (pos 0) (901 ∷ 902 ∷ []) ∷ []))) ∷
+    (list (twoRows 12) (0 ∷ 0 ∷ 0 ∷ 0 ∷ 9 ∷ []) gets plans 2 (11 ∷ 6 ∷ 12 ∷ 0 ∷ 9 ∷ [])) ∷
+    (plan (twoRows 12) 1 (0 ∷ 0 ∷ []) gets order 11 (pos 6) (2 ∷ 1 ∷ [])) ∷
+    (plan (twoRows 12) 2 (0 ∷ 0 ∷ []) gets order 12 (pos 0) (1 ∷ 2 ∷ [])) ∷
+    -- M2: with row 903 added there is one plan.
+    (printing threeRows gets prints (listing 3 (line 25 (pos 0) (901 ∷ 902 ∷ 903 ∷ []) ∷ []))) ∷
+    (list threeRows (0 ∷ 0 ∷ 0 ∷ 0 ∷ 0 ∷ 0 ∷ []) gets plans 1 (25 ∷ 0 ∷ 0 ∷ 0 ∷ 0 ∷ 0 ∷ [])) ∷
+    (list threeRows (1 ∷ 2 ∷ 3 ∷ 4 ∷ 5 ∷ []) gets lists (gives (listed.Refused 9 0) (1 ∷ 2 ∷ 3 ∷ 4 ∷ 5 ∷ []))) ∷
+    (plan threeRows 2 [] gets none 11 1 []) ∷
+    -- M3, M4, M5: the bounds 6, 0 and -1 in M2.
+    (bound threeRows (pos 6) (0 ∷ 0 ∷ 0 ∷ []) gets order 25 (pos 6) (2 ∷ 1 ∷ 3 ∷ [])) ∷
+    (bound threeRows (pos 0) (0 ∷ 0 ∷ 0 ∷ 8 ∷ []) gets order 25 (pos 0) (1 ∷ 2 ∷ 3 ∷ 8 ∷ [])) ∷
+    (bound threeRows (negsuc 0) (0 ∷ 0 ∷ 0 ∷ []) gets none 12 0 (0 ∷ 0 ∷ 0 ∷ [])) ∷
+    -- M6: the posting 2 1 3 in M2 is beaten by plan 1.
+    (posting threeRows (2 ∷ 1 ∷ 3 ∷ []) gets judges (judged.Beaten 25 (pos 6) 1)) ∷
+    -- M7, M8: M1 with row 2 due 13 is accepted, due 14 is refused 8 at 6.
+    (reading (twoRows 13) gets reads (accepted 0 (
+    record { number = 901; release = 1; length = 1; due = 5 } ∷ record { number = 902; release = 0; length = 10; due = 13 } ∷ []))) ∷
+    (reading (twoRows 14) gets reads (refused 8 6)) ∷
+    -- M9: one row, free 7.
+    (plan oneRow 1 (0 ∷ []) gets order 11 (pos 1) (1 ∷ [])) ∷
+    -- M10: two equal rows; early work has a negative lateness, in two's complement.
+    (plan equalRows 1 (0 ∷ 0 ∷ []) gets order 4 (negsuc 0) (1 ∷ 2 ∷ [])) ∷
+    (list equalRows (0 ∷ 0 ∷ 7 ∷ 7 ∷ []) gets plans 1 (4 ∷ 4294967295 ∷ 7 ∷ 7 ∷ [])) ∷
+    -- M11, M12: 7 pages at pace 40 take 11, 1 page at pace 50 takes 2.
+    (lengthOf 7 40 gets takes 11) ∷
+    (lengthOf 1 50 gets takes 2) ∷
+    -- M13: four rows, two plans.
+    (list fourRows (0 ∷ 0 ∷ 0 ∷ 0 ∷ 0 ∷ 0 ∷ 0 ∷ 0 ∷ []) gets plans 2 (121 ∷ 17 ∷ 122 ∷ 0 ∷ 0 ∷ 0 ∷ 0 ∷ 0 ∷ [])) ∷
+    (plan fourRows 1 (0 ∷ 0 ∷ 0 ∷ 0 ∷ []) gets order 121 (pos 17) (2 ∷ 1 ∷ 4 ∷ 3 ∷ [])) ∷
+    (plan fourRows 2 (0 ∷ 0 ∷ 0 ∷ 0 ∷ []) gets order 122 (pos 0) (1 ∷ 2 ∷ 3 ∷ 4 ∷ [])) ∷
+    -- A row's words and their place, in M13.
+    (wordsOf fourRows 2 gets words (wordOf 3 902 ∷ wordOf 4 0 ∷ wordOf 5 10 ∷ wordOf 6 12 ∷ [])) ∷
+    (placeOf fourRows 2 gets finds (found.At 6)) ∷
+    (placeOf fourRows 5 gets finds (found.Refused 11 4)) ∷
+    []
+
+-- Two functions that give one list over a list agree at each of its elements.
+agree : {A B : Type 0} (f g : A → B) {l : List A} → map f l ≡ map g l → {a : A} → List·Memᴰ a l → f a ≡ g a
+agree f g e (List·Memᴰ·head p) = ap f p ∙ head-eq-of-cons-eq e ∙ ap g (sym p)
+agree f g e (List·Memᴰ·tail m) = agree f g (tail-eq-of-cons-eq e) m
+
+answered : map (λ (d : Day). answerTo (d .asked)) days ≡ map (λ (d : Day). d .told) days
+unfolding openRows openDesk openPicks openPlans openRefusals openBook openPosting openCalls openLines
+answered = refl
+
+-- Every day of the table is answered as the table says.
+pub days-hold : (d : Day) → List·Memᴰ d days → answerTo (d .asked) ≡ d .told
+days-hold d = agree (λ (e : Day). answerTo (e .asked)) (λ (e : Day). e .told) answered

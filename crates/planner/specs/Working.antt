@@ -1,0 +1,61 @@
+-- What the planner's working parts hold: the columns of a table, and the list that the core makes.
+-- Rests on: the schedule, the core.
+use Prim.Native.Nat.{ℕ, _≤_}
+use mathlib.Core.Path.{_≡_}
+use mathlib.Core.List.{List, [], _∷_}
+use mathlib.Core.Option.{Option, none, some}
+use lib.ListN.{length, take}
+use Rattle.schedule.specs.declared.Row.{Row}
+use Rattle.theory.specs.Jobs.{Job}
+use Rattle.schedule.specs.Rows.{job, countFrom}
+use Rattle.schedule.specs.Desk.{Pair}
+use Rattle.schedule.specs.Promise.{Agreeing}
+use Rattle.schedule.specs.Offset.{lowered}
+use Rattle.core.specs.declared.Front.{Front}
+use Rattle.core.specs.Columns.{columns, Limits}
+use Rattle.planner.specs.declared.Columns.{Columns}
+
+-- What planning sees of each row number, in columns.
+abbrev pub jobsOf : Columns → ℕ → Job
+jobsOf c = columns (c .release) (c .length) (c .due)
+
+-- The columns hold the rows: each row number has the job of its row.
+pub record Apart (rows : List Row) (c : Columns) : Type 0 where
+  pub jobs : (i : ℕ) → jobsOf c i ≡ job rows i
+  pub releases : length (c .release) ≡ 257
+  pub lengths : length (c .length) ≡ 257
+  pub dues : length (c .due) ≡ 257
+
+-- What the core asks of the columns, the count of rows and the free minute.
+pub record Plannable (c : Columns) (n free : ℕ) : Type 0 where
+  pub limits : Limits (jobsOf c)
+  pub agree : Agreeing (jobsOf c) (countFrom 1 n)
+  pub some : 1 ≤ n
+  pub few : n ≤ 256
+  pub early : free ≤ 10000000
+  pub releases : length (c .release) ≡ 257
+  pub lengths : length (c .length) ≡ 257
+  pub dues : length (c .due) ≡ 257
+
+-- Pairs of ends and raised latenesses in step; and the plans that a list holds.
+abbrev pub pairAt : ℕ → ℕ → Pair
+pairAt end late = record { end = end; late = lowered late }
+
+unfoldable pub pairsOf : List ℕ → List ℕ → List Pair
+pairsOf (e ∷ es) (l ∷ ls) = pairAt e l ∷ pairsOf es ls
+pairsOf (e ∷ es) [] = []
+pairsOf [] ls = []
+
+abbrev pub held : Front → List Pair
+held f = pairsOf (take (f .count) (f .ends)) (take (f .count) (f .lates))
+
+-- A list has room for 256 plans.
+pub record Sized (f : Front) : Type 0 where
+  pub few : f .count ≤ 256
+  pub ends : length (f .ends) ≡ 256
+  pub lates : length (f .lates) ≡ 256
+
+-- A plan's number as the code gives it: 0 where there is none.
+abbrev pub orZero : Option ℕ → ℕ
+orZero none = 0
+orZero (some k) = k

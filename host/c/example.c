@@ -1,0 +1,98 @@
+/* A day of two transcripts: its plans, an order, a verdict and a row's words.
+ *
+ *     cc -std=c11 -Iinclude host/c/example.c target/staticlib/libjelvaksna.a
+ */
+#include "jelvaksna.h"
+#include <inttypes.h>
+#include <stdio.h>
+#include <stdlib.h>
+
+_Static_assert(offsetof(jelvaksna_answer, place) == 0, "layout");
+_Static_assert(offsetof(jelvaksna_answer, count) == 8, "layout");
+_Static_assert(offsetof(jelvaksna_answer, refusal) == 16, "layout");
+_Static_assert(offsetof(jelvaksna_answer, end) == 20, "layout");
+_Static_assert(offsetof(jelvaksna_answer, late) == 24, "layout");
+_Static_assert(sizeof(jelvaksna_answer) == 32, "layout");
+
+/* This program knows what to expect, so that it can serve as a test. */
+#define EXPECT(what)                                                            \
+    do {                                                                        \
+        if (!(what)) {                                                          \
+            fprintf(stderr, "%s:%d: not so: %s\n", __FILE__, __LINE__, #what);  \
+            exit(1);                                                            \
+        }                                                                       \
+    } while (0)
+
+static void print_order(const uint32_t *order, size_t rows) {
+    for (size_t i = 0; i < rows; i++)
+        printf(" %" PRIu32, order[i]);
+    putchar('\n');
+}
+
+int main(void) {
+    /* Free from minute 0, 60 pages an hour; row: number, release, pages, due. */
+    const uint32_t book[] = {
+        JELVAKSNA_WORD(1, 0), JELVAKSNA_WORD(2, 60),
+        JELVAKSNA_WORD(3, 901), JELVAKSNA_WORD(4, 1), JELVAKSNA_WORD(5, 1), JELVAKSNA_WORD(6, 5),
+        JELVAKSNA_WORD(3, 902), JELVAKSNA_WORD(4, 0), JELVAKSNA_WORD(5, 10), JELVAKSNA_WORD(6, 12),
+        JELVAKSNA_WORD(7, 2),
+    };
+    const size_t words = sizeof book / sizeof *book;
+    uint32_t list[JELVAKSNA_MAX_LIST_WORDS];
+    uint32_t order[JELVAKSNA_MAX_ROWS];
+
+    /* The list, and the order of each plan. */
+    jelvaksna_answer answer = jelvaksna_list(book, words, list, JELVAKSNA_MAX_LIST_WORDS);
+    EXPECT(answer.refusal == 0 && answer.count == 2);
+    for (size_t plan = 1; plan <= answer.count; plan++) {
+        jelvaksna_answer of = jelvaksna_order_of_plan(book, words, (uint32_t)plan, order, 2);
+        EXPECT(of.refusal == 0 && of.end == list[2 * plan - 2] && of.late == (int32_t)list[2 * plan - 1]);
+        printf("plan %zu: end %" PRIu32 ", late %" PRId32 ", rows", plan, of.end, of.late);
+        print_order(order, 2);
+    }
+
+    /* The soonest order that is at most 5 minutes late. */
+    answer = jelvaksna_order_for_bound(book, words, 5, order, 2);
+    EXPECT(answer.refusal == 0 && answer.end == 12 && answer.late == 0 && order[0] == 1 && order[1] == 2);
+    printf("at most 5 late: end %" PRIu32 ", rows", answer.end);
+    print_order(order, 2);
+
+    /* No order is early throughout. */
+    answer = jelvaksna_order_for_bound(book, words, -1, order, 2);
+    EXPECT(answer.refusal == JELVAKSNA_UNKEPT && answer.place == 0);
+
+    /* An order posted by hand. */
+    const uint32_t posting[] = {2, 1};
+    answer = jelvaksna_verdict(book, words, posting, 2);
+    EXPECT(answer.refusal == 0 && answer.end == 11 && answer.late == 6 && answer.count == 0);
+    printf("posting 2 1: end %" PRIu32 ", late %" PRId32 ", %s\n", answer.end, answer.late,
+           answer.count == 0 ? "unbeaten" : "beaten");
+    const uint32_t twice[] = {1, 1};
+    answer = jelvaksna_verdict(book, words, twice, 2);
+    EXPECT(answer.refusal == JELVAKSNA_NOT_POSTING && answer.place == 1);
+
+    /* The words of row 2. */
+    answer = jelvaksna_row_place(book, words, 2);
+    EXPECT(answer.refusal == 0 && answer.place == 6);
+    const uint32_t *row = book + answer.place;
+    printf("row 2:");
+    for (int i = 0; i < 4; i++)
+        printf(" %" PRIu32, row[i] & 0x1fffffff);
+    putchar('\n');
+    answer = jelvaksna_row_place(book, words, 3);
+    EXPECT(answer.refusal == JELVAKSNA_UNLISTED && answer.place == 2);
+
+    /* A book that stops, and an empty one. */
+    answer = jelvaksna_list(book, words - 1, list, JELVAKSNA_MAX_LIST_WORDS);
+    EXPECT(answer.refusal == JELVAKSNA_CUT && answer.place == words - 1);
+    answer = jelvaksna_row_place(NULL, 0, 1);
+    EXPECT(answer.refusal == JELVAKSNA_CUT && answer.place == 0);
+    answer = jelvaksna_list(NULL, 0, NULL, 0);
+    EXPECT(answer.refusal == JELVAKSNA_CUT && answer.place == 0);
+
+    /* A result one word too short is left as it was. */
+    list[0] = list[2] = 77;
+    answer = jelvaksna_list(book, words, list, 3);
+    EXPECT(answer.refusal == JELVAKSNA_NARROW && list[0] == 77 && list[2] == 77);
+    return 0;
+}

@@ -1,0 +1,126 @@
+/* Every lent buffer ends where a page that cannot be touched begins, then
+ * begins where one ends: an access past either end faults. Books and postings
+ * are lent on pages that cannot be written. */
+#define _GNU_SOURCE
+#include "jelvaksna.h"
+#include <stdio.h>
+#include <string.h>
+#include <sys/mman.h>
+
+#define PAGE 4096
+#define INNER (2 * PAGE)
+
+/* n words against the fence: the pages before and after cannot be touched. */
+static uint32_t *fenced(const uint32_t *from, size_t n, int at_end, int prot) {
+    char *all = mmap(NULL, INNER + 2 * PAGE, PROT_NONE, MAP_PRIVATE | MAP_ANONYMOUS, -1, 0);
+    if (all == MAP_FAILED || mprotect(all + PAGE, INNER, PROT_READ | PROT_WRITE) != 0) {
+        perror("fence");
+        return NULL;
+    }
+    uint32_t *words = (uint32_t *)(void *)(all + PAGE);
+    if (at_end)
+        words += INNER / sizeof *words - n;
+    if (from != NULL && n > 0)
+        memcpy(words, from, n * sizeof *words);
+    mprotect(all + PAGE, INNER, prot);
+    return words;
+}
+
+static void unfence(uint32_t *words, size_t n, int at_end) {
+    char *inner = at_end ? (char *)(words + n) - INNER : (char *)words;
+    munmap(inner - PAGE, INNER + 2 * PAGE);
+}
+
+static int bad(const char *what, size_t n) {
+    printf("guard pages: %s, book of %zu words\n", what, n);
+    return 1;
+}
+
+/* All calls on the first n words of a sound book of so many rows. */
+static int calls(const uint32_t *sound, size_t n, size_t rows, int at_end) {
+    const size_t whole = 4 * rows + 3;
+    uint32_t *book = fenced(sound, n, at_end, PROT_READ);
+    uint32_t *list = fenced(NULL, 2 * rows, at_end, PROT_READ | PROT_WRITE);
+    uint32_t *order = fenced(NULL, rows, at_end, PROT_READ | PROT_WRITE);
+    if (book == NULL || list == NULL || order == NULL)
+        return 1;
+    const uint32_t want = n < whole ? JELVAKSNA_CUT : 0;
+    const size_t cut = n < whole ? n : 0;
+
+    jelvaksna_answer a = jelvaksna_list(book, n, list, 2 * rows);
+    if (a.refusal != want || a.place != cut || (want == 0) != (a.count > 0))
+        return bad("list", n);
+    const size_t plans = a.count;
+    for (size_t plan = 0; plan <= plans + 1; plan++) {
+        a = jelvaksna_order_of_plan(book, n, (uint32_t)plan, order, rows);
+        uint32_t expected = want != 0 ? want : plan == 0 || plan > plans ? JELVAKSNA_UNLISTED : 0;
+        if (a.refusal != expected)
+            return bad("order of a plan", n);
+        if (expected == 0) {
+            if (a.end != list[2 * plan - 2] || (uint32_t)a.late != list[2 * plan - 1])
+                return bad("pair of a plan", n);
+            uint32_t *posting = fenced(order, rows, at_end, PROT_READ);
+            a = jelvaksna_verdict(book, n, posting, rows);
+            if (a.refusal != 0 || a.count != 0 || a.end != list[2 * plan - 2])
+                return bad("verdict on a plan", n);
+            unfence(posting, rows, at_end);
+        }
+    }
+    a = jelvaksna_order_for_bound(book, n, INT32_MAX, order, rows);
+    if (a.refusal != want || (want == 0 && a.end != list[0]))
+        return bad("order for a bound", n);
+    a = jelvaksna_order_for_bound(book, n, INT32_MIN, order, rows);
+    if (a.refusal != (want != 0 ? want : JELVAKSNA_UNKEPT))
+        return bad("bound that is not kept", n);
+    a = jelvaksna_row_place(book, n, (uint32_t)rows);
+    if (a.refusal != want || a.place != (want != 0 ? cut : whole - 5))
+        return bad("row", n);
+
+    /* Empty buffers at addresses that cannot be touched. */
+    uint32_t *dead = at_end ? order + rows : order - 1;
+    if (want == 0 && jelvaksna_list(book, n, dead, 0).refusal != JELVAKSNA_NARROW)
+        return bad("empty result", n);
+    if (want == 0 && jelvaksna_verdict(book, n, dead, 0).refusal != JELVAKSNA_NOT_POSTING)
+        return bad("empty posting", n);
+    if (jelvaksna_row_place(dead, 0, 1).refusal != JELVAKSNA_CUT)
+        return bad("empty book", n);
+
+    unfence(book, n, at_end);
+    unfence(list, 2 * rows, at_end);
+    unfence(order, rows, at_end);
+    return 0;
+}
+
+/* Rows of one page whose gaps grow, and a long one that is there from the start. */
+static size_t make(uint32_t *book, size_t rows) {
+    size_t n = 0;
+    uint32_t minute = 0;
+    book[n++] = JELVAKSNA_WORD(1, 0);
+    book[n++] = JELVAKSNA_WORD(2, 60);
+    for (uint32_t i = 1; i <= rows; i++) {
+        const int last = i == rows;
+        const uint32_t release = last ? 0 : minute + i;
+        const uint32_t pages = last ? minute + 1 : 1;
+        book[n++] = JELVAKSNA_WORD(3, 900 + i);
+        book[n++] = JELVAKSNA_WORD(4, release);
+        book[n++] = JELVAKSNA_WORD(5, pages);
+        book[n++] = JELVAKSNA_WORD(6, release + pages);
+        minute = release + pages;
+    }
+    book[n++] = JELVAKSNA_WORD(7, (uint32_t)rows);
+    return n;
+}
+
+int main(void) {
+    uint32_t book[JELVAKSNA_MAX_BOOK_WORDS];
+    for (int at_end = 0; at_end < 2; at_end++) {
+        for (size_t rows = 1; rows <= 40; rows += 3) {
+            const size_t whole = make(book, rows);
+            for (size_t n = 0; n <= whole; n++)
+                if (calls(book, n, rows, at_end) != 0)
+                    return 1;
+        }
+    }
+    puts("guard pages: ok");
+    return 0;
+}

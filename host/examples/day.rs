@@ -1,0 +1,30 @@
+//! A day of two transcripts through the safe wrapper: its plans, an order, a verdict, a row.
+//!
+//!     cargo run --offline --release --manifest-path host/Cargo.toml --example day
+
+use jelvaksna::{linked, word, Refusal};
+
+fn main() -> Result<(), Refusal> {
+    // Free from minute 0, 60 pages an hour; row: number, release, pages, due.
+    let mut book = vec![word(1, 0), word(2, 60)];
+    book.extend([word(3, 901), word(4, 1), word(5, 1), word(6, 5)]);
+    book.extend([word(3, 902), word(4, 0), word(5, 10), word(6, 12)]);
+    book.push(word(7, 2));
+
+    let mut order = [0; 2];
+    for (i, plan) in linked::plans(&book)?.iter().enumerate() {
+        linked::order_of_plan(&book, i as u32 + 1, &mut order)?;
+        let (end, late) = (plan.end, plan.late);
+        println!("plan {}: end {end}, late {late}, rows {order:?}", i + 1);
+    }
+    let pair = linked::order_for_bound(&book, 5, &mut order)?;
+    println!("at most 5 late: end {}, rows {order:?}", pair.end);
+    let (pair, beaten_by) = linked::verdict(&book, &[2, 1])?;
+    println!("posting 2 1: {pair:?}, beaten by {beaten_by:?}");
+    let numbers: Vec<u32> = linked::row_words(&book, 2)?
+        .iter()
+        .map(|w| w & 0x1fff_ffff)
+        .collect();
+    println!("row 2: {numbers:?}");
+    Ok(())
+}

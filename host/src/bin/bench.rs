@@ -1,0 +1,134 @@
+//! How long the calls take, the archive beside the model: same books, same machine, one run.
+//!
+//!     cargo run --offline --release --manifest-path host/Cargo.toml --bin bench
+//!
+//! Prints tables for docs/BENCHMARKS.md. It asserts equal answers, and nothing about times.
+
+use jelvaksna::books::{self, Draft, Rng};
+use jelvaksna::model::{self, Day, MAX_ROWS};
+use jelvaksna::{linked, Pair};
+use std::hint::black_box;
+use std::time::{Duration, Instant};
+
+const SIZES: [usize; 4] = [8, 32, 128, 256];
+const RUNS: usize = 9;
+const CALLS: [&str; 4] = [
+    "list",
+    "order for a bound",
+    "verdict",
+    "row (reading alone)",
+];
+
+/// How often to call so that a run is long enough to be timed.
+fn repeats<T>(call: &mut impl FnMut() -> T) -> u32 {
+    let start = Instant::now();
+    let mut calls = 0;
+    while calls < 10_000 && start.elapsed() < Duration::from_millis(8) {
+        black_box(call());
+        calls += 1;
+    }
+    calls
+}
+
+/// Microseconds a call.
+fn run<T>(call: &mut impl FnMut() -> T, repeats: u32) -> f64 {
+    let start = Instant::now();
+    for _ in 0..repeats {
+        black_box(call());
+    }
+    start.elapsed().as_secs_f64() * 1e6 / f64::from(repeats)
+}
+
+fn median(mut times: Vec<f64>) -> f64 {
+    times.sort_by(f64::total_cmp);
+    times[times.len() / 2]
+}
+
+/// Median microseconds of a call on the archive and on the model, run by turns.
+fn time<T>(mut archive: impl FnMut() -> T, mut model: impl FnMut() -> T) -> (f64, f64) {
+    let (of_archive, of_model) = (repeats(&mut archive), repeats(&mut model));
+    let mut times = (Vec::new(), Vec::new());
+    for _ in 0..RUNS {
+        times.0.push(run(&mut archive, of_archive));
+        times.1.push(run(&mut model, of_model));
+    }
+    (median(times.0), median(times.1))
+}
+
+/// The times of the calls of [`CALLS`] on one book.
+fn measure(book: &[u32], day: &Day) -> [(f64, f64); CALLS.len()] {
+    let rows = day.rows.len();
+    let Pair { late: bound, .. } = day.list()[day.list().len() / 2];
+    let posting: Vec<u32> = (1..=rows as u32).collect();
+    let (mut a, mut b) = ([0; 2 * MAX_ROWS], [0; 2 * MAX_ROWS]);
+
+    assert_eq!(linked::list(book, &mut a), model::list(book, &mut b));
+    assert_eq!(
+        linked::order_for_bound(book, bound, &mut a),
+        model::order_for_bound(book, bound, &mut b)
+    );
+    assert_eq!(a, b);
+    assert_eq!(
+        linked::verdict(book, &posting),
+        model::verdict(book, &posting)
+    );
+
+    let list = time(
+        || linked::list(black_box(book), &mut a),
+        || model::list(black_box(book), &mut b),
+    );
+    let order = time(
+        || linked::order_for_bound(black_box(book), bound, &mut a),
+        || model::order_for_bound(black_box(book), bound, &mut b),
+    );
+    let verdict = time(
+        || linked::verdict(black_box(book), &posting),
+        || model::verdict(black_box(book), &posting),
+    );
+    let row = time(
+        || linked::row_words(black_box(book), 1).map(|words| words.len()),
+        || model::row_place(black_box(book), 1),
+    );
+    [list, order, verdict, row]
+}
+
+fn main() {
+    let seed = books::seed();
+    println!("Microseconds a call, median of {RUNS} runs, seed {seed:#x}. Below 1 in the last column: the archive is faster.\n");
+    println!("| day | rows | plans | call | archive µs | model µs | archive / model |");
+    println!("|---|---:|---:|---|---:|---:|---:|");
+    let typical = |rows: usize| books::typical_day(&mut Rng::for_case(seed, "bench", 1), rows);
+    let days: [(&str, &dyn Fn(usize) -> Draft); 2] =
+        [("typical", &typical), ("worst", &books::many_plans)];
+    let mut growth = Vec::new();
+    for (name, make) in days {
+        let mut all = Vec::new();
+        for rows in SIZES {
+            let book = make(rows).words();
+            let day = Day::read(&book).expect("an accepted day");
+            let plans = day.list().len();
+            let times = measure(&book, &day);
+            for (call, (archive, model)) in CALLS.iter().zip(times) {
+                println!(
+                    "| {name} | {rows} | {plans} | {call} | {archive:.2} | {model:.2} | {:.2} |",
+                    archive / model
+                );
+            }
+            all.push(times);
+        }
+        growth.push((name, all));
+    }
+    println!("\nHow the archive's time grows with the rows (and the model's):\n");
+    println!("| day | call | 8 to 32 | 32 to 128 | 128 to 256 |");
+    println!("|---|---|---:|---:|---:|");
+    for (name, all) in growth {
+        for (i, call) in CALLS.iter().enumerate() {
+            print!("| {name} | {call} |");
+            for step in all.windows(2) {
+                let (archive, model) = (step[1][i].0 / step[0][i].0, step[1][i].1 / step[0][i].1);
+                print!(" × {archive:.1} (× {model:.1}) |");
+            }
+            println!();
+        }
+    }
+}

@@ -1,0 +1,615 @@
+//! A seeded maker of books: accepted days of many shapes, and books damaged in every way that the
+//! paper names.
+//!
+//! A row is in agreement with the row above if release plus length does not fall and its due lies
+//! between the due above and the spare above plus its own release and length. The makers below
+//! choose within these limits, so that what they make is accepted by construction.
+
+use crate::model::{length, MAX_ROWS};
+use crate::word;
+
+/// The seed of a test run: `JELVAKSNA_SEED` (decimal, or hexadecimal after 0x), or a fixed one.
+pub fn seed() -> u64 {
+    let Ok(text) = std::env::var("JELVAKSNA_SEED") else {
+        return 0x01d_e5c;
+    };
+    match text.strip_prefix("0x") {
+        Some(hex) => u64::from_str_radix(hex, 16),
+        None => text.parse(),
+    }
+    .expect("JELVAKSNA_SEED is a number of 64 bits")
+}
+
+/// How much longer than usual the tests run: `JELVAKSNA_TIMES`, or 1.
+pub fn times() -> u64 {
+    std::env::var("JELVAKSNA_TIMES").map_or(1, |text| text.parse().expect("a whole number"))
+}
+
+/// A small generator of pseudo-random numbers (splitmix64).
+#[derive(Clone, Debug)]
+pub struct Rng(u64);
+
+impl Rng {
+    pub fn new(seed: u64) -> Self {
+        Rng(seed)
+    }
+
+    /// The generator of one case of a test, so that each case stands by itself.
+    pub fn for_case(seed: u64, test: &str, case: u64) -> Self {
+        let mut rng = Rng(seed);
+        for byte in test.bytes() {
+            rng.0 = rng.next() ^ u64::from(byte);
+        }
+        Rng(rng.next() ^ case.wrapping_mul(0x2545_f491_4f6c_dd1d))
+    }
+
+    #[allow(clippy::should_implement_trait)]
+    pub fn next(&mut self) -> u64 {
+        self.0 = self.0.wrapping_add(0x9e37_79b9_7f4a_7c15);
+        let mut z = self.0;
+        z = (z ^ z >> 30).wrapping_mul(0xbf58_476d_1ce4_e5b9);
+        z = (z ^ z >> 27).wrapping_mul(0x94d0_49bb_1331_11eb);
+        z ^ z >> 31
+    }
+
+    /// From 0 to `n` - 1.
+    pub fn below(&mut self, n: usize) -> usize {
+        (self.next() % n as u64) as usize
+    }
+
+    /// From `a` to `b`, both included.
+    pub fn range(&mut self, a: i64, b: i64) -> i64 {
+        a + (self.next() % (b - a + 1) as u64) as i64
+    }
+
+    /// True once in `n` times.
+    pub fn one_in(&mut self, n: usize) -> bool {
+        self.below(n) == 0
+    }
+
+    pub fn pick<T: Copy>(&mut self, from: &[T]) -> T {
+        from[self.below(from.len())]
+    }
+
+    pub fn shuffle<T>(&mut self, items: &mut [T]) {
+        for i in (1..items.len()).rev() {
+            items.swap(i, self.below(i + 1));
+        }
+    }
+}
+
+/// A day before it is put into words.
+#[derive(Clone, Debug)]
+pub struct Draft {
+    pub free: i64,
+    pub pace: i64,
+    pub rows: Vec<DraftRow>,
+}
+
+#[derive(Clone, Copy, Debug)]
+pub struct DraftRow {
+    pub number: u32,
+    pub release: i64,
+    pub pages: i64,
+    pub due: i64,
+}
+
+impl Draft {
+    /// A day from rows of number, release, pages, due.
+    pub fn of(free: i64, pace: i64, rows: &[(u32, i64, i64, i64)]) -> Self {
+        let rows = rows.iter().map(|&(number, release, pages, due)| DraftRow {
+            number,
+            release,
+            pages,
+            due,
+        });
+        Draft {
+            free,
+            pace,
+            rows: rows.collect(),
+        }
+    }
+
+    /// The book of the day.
+    pub fn words(&self) -> Vec<u32> {
+        let mut book = vec![word(1, self.free as u32), word(2, self.pace as u32)];
+        for row in &self.rows {
+            book.push(word(3, row.number));
+            book.push(word(4, row.release as u32));
+            book.push(word(5, row.pages as u32));
+            book.push(word(6, row.due as u32));
+        }
+        book.push(word(7, self.rows.len() as u32));
+        book
+    }
+
+    fn length(&self, row: &DraftRow) -> i64 {
+        length(row.pages, self.pace)
+    }
+
+    /// Adds a row that agrees with the last one. What is asked for is bent into the limits: an
+    /// earlier release is moved later, and `slack` of 0 to 100 says where in the span of dues that
+    /// agree the due shall lie (100: the spare stays as it is).
+    fn add(&mut self, release: i64, pages: i64, slack: i64) {
+        let number = self.rows.len() as u32;
+        let above = *self.rows.last().expect("a first row stands");
+        let reach = above.release + self.length(&above);
+        let spare = above.due - reach;
+        let mut row = DraftRow {
+            number,
+            release,
+            pages,
+            due: 0,
+        };
+        row.release = row.release.max(reach - self.length(&row));
+        if row.release > LAST_RELEASE {
+            // A second row like the one above always agrees.
+            row.release = above.release;
+            row.pages = above.pages;
+        }
+        let most = (spare + row.release + self.length(&row)).min(LAST_DUE);
+        row.due = above.due + (most - above.due) * slack / 100;
+        self.rows.push(row);
+    }
+
+    /// Gives the rows numbers of their own.
+    fn number(&mut self, rng: &mut Rng) {
+        const TOP: u32 = (1 << 29) - 1;
+        // An odd factor and a shift are one to one on 29 bits.
+        let (factor, shift) = (rng.next() as u32 | 1, rng.next() as u32);
+        let plain = rng.one_in(3);
+        for (i, row) in self.rows.iter_mut().enumerate() {
+            row.number = match plain {
+                true => 901 + i as u32,
+                false => (i as u32).wrapping_mul(factor).wrapping_add(shift) & TOP,
+            };
+        }
+        if rng.one_in(4) {
+            let (low, high) = (rng.below(self.rows.len()), rng.below(self.rows.len()));
+            if low != high && !self.rows.iter().any(|r| r.number == 0 || r.number == TOP) {
+                self.rows[low].number = 0;
+                self.rows[high].number = TOP;
+            }
+        }
+    }
+}
+
+const LAST_RELEASE: i64 = 10_000_000;
+const LAST_DUE: i64 = 20_000_000;
+
+/// A day of so many rows, of a shape chosen at random: crowded or idle, early or late, with ties,
+/// with rows of one length or of many, at the limits or far from them.
+pub fn accepted(rng: &mut Rng, rows: usize) -> Draft {
+    match rng.below(8) {
+        0 => several_plans(rng, rows),
+        1 | 2 => contests(rng, rows),
+        3 => typical_day(rng, rows),
+        4 => limits(rng, rows),
+        _ => mixed(rng, rows),
+    }
+}
+
+/// Number of rows of a short, middling or long day.
+pub fn some_rows(rng: &mut Rng, most: usize) -> usize {
+    match rng.below(8) {
+        0 => 1 + rng.below(most),
+        1..=3 => 1 + rng.below(most.min(8)),
+        4 | 5 => 1 + rng.below(most.min(16)),
+        _ => 1 + rng.below(most.min(40)),
+    }
+}
+
+fn mixed(rng: &mut Rng, rows: usize) -> Draft {
+    let pace = match rng.below(4) {
+        0 => rng.range(4, 120),
+        _ => rng.pick(&[4, 7, 30, 40, 50, 60, 60, 60, 61, 119, 120]),
+    };
+    let most_pages = rng.pick(&[1, 2, 5, 12, 12, 40, 200]);
+    let long_one_in = rng.pick(&[2, 3, 5, 10, 50]);
+    let long_pages = rng.pick(&[10, 30, 100, 400]);
+    // The mean step of release plus length: below a row's length the desk is crowded, above it idles.
+    let step = rng.pick(&[0, 1, 2, 5, 12, 40, 150, 1000]);
+    let slack = rng.pick(&[0, 50, 95, 100, 100]);
+    let first_release = rng.pick(&[0, 0, 3, 100, 1_000_000]);
+    let mut day = Draft {
+        free: match rng.below(4) {
+            0 => first_release + rng.range(0, 200),
+            1 => 0,
+            _ => (first_release + rng.range(-30, 30)).max(0),
+        },
+        pace,
+        rows: Vec::new(),
+    };
+    let first = DraftRow {
+        number: 0,
+        release: first_release,
+        pages: rng.range(1, most_pages),
+        due: 0,
+    };
+    let reach = first.release + day.length(&first);
+    let spare = rng.pick(&[-20, -1, 0, 1, 3, 20, 300, 10_000]);
+    day.rows.push(DraftRow {
+        due: (reach + spare).max(0),
+        ..first
+    });
+    while day.rows.len() < rows {
+        let above = *day.rows.last().unwrap();
+        let reach = above.release + day.length(&above);
+        if rng.one_in(12) {
+            // A tie: the same again.
+            day.add(above.release, above.pages, 100);
+            continue;
+        }
+        let pages = match rng.one_in(long_one_in) {
+            true => rng.range(1, long_pages),
+            false => rng.range(1, most_pages),
+        };
+        let step = if rng.one_in(10) {
+            step * 10
+        } else {
+            rng.range(0, step)
+        };
+        let long = length(pages, pace);
+        let slack = if rng.one_in(6) {
+            rng.range(0, 100)
+        } else {
+            slack
+        };
+        day.add((reach + step - long).max(0), pages, slack);
+    }
+    day.number(rng);
+    day
+}
+
+/// Days at the limits of the values: late desks, late releases, slow paces, thick transcripts.
+fn limits(rng: &mut Rng, rows: usize) -> Draft {
+    let mut day = Draft {
+        free: rng.pick(&[0, LAST_RELEASE, LAST_RELEASE - 1]),
+        pace: rng.pick(&[4, 4, 5, 120]),
+        rows: Vec::new(),
+    };
+    let first = DraftRow {
+        number: 0,
+        release: rng.pick(&[0, 0, LAST_RELEASE, LAST_RELEASE - 40_000]),
+        pages: rng.pick(&[1, 2, 2_000]),
+        due: rng.pick(&[0, 0, 1, 30_000, 1_000_000, LAST_DUE]),
+    };
+    day.rows.push(first);
+    while day.rows.len() < rows {
+        let release = match rng.below(4) {
+            0 => LAST_RELEASE - rng.range(0, 50),
+            1 => rng.range(0, LAST_RELEASE),
+            _ => day.rows.last().unwrap().release + rng.range(0, 3),
+        };
+        let pages = rng.pick(&[1, 1, 2, 1_999, 2_000]);
+        day.add(release.min(LAST_RELEASE), pages, rng.pick(&[0, 100]));
+    }
+    day.number(rng);
+    day
+}
+
+/// One long row and short ones whose gaps grow by chance, so that there are often several plans.
+pub fn several_plans(rng: &mut Rng, rows: usize) -> Draft {
+    let pace = rng.pick(&[4, 10, 20, 60]);
+    let short = length(1, pace);
+    let spare = rng.range(-40, 200);
+    let shorts = rows.max(2) - 1;
+    let mut day = Draft {
+        free: rng.range(0, 20),
+        pace,
+        rows: Vec::new(),
+    };
+    let (mut release, mut gap) = (day.free, rng.range(1, 3));
+    for i in 0..shorts {
+        release += gap;
+        if i == 0 {
+            let due = (release + short + spare).max(0);
+            day.rows.push(DraftRow {
+                number: 0,
+                release,
+                pages: 1,
+                due,
+            });
+        } else {
+            day.add(release, 1, 100);
+        }
+        release += short;
+        gap += rng.pick(&[0, 0, 1, 1, 2, -1]);
+        gap = gap.max(0);
+    }
+    if rows > 1 {
+        // Long enough to be released before the shorts, where the pages allow it.
+        let pages = ((release - day.free) * pace / 60 + rng.range(1, 5)).clamp(1, 2_000);
+        let reach = day.free + length(pages, pace);
+        day.add((reach - length(pages, pace)).max(0), pages, 100);
+    }
+    day.number(rng);
+    day
+}
+
+/// Short rows with growing gaps, time and again a long one that was there before them: a choice
+/// after a choice, most of them open again once the one before is settled.
+pub fn contests(rng: &mut Rng, rows: usize) -> Draft {
+    let pace = rng.pick(&[30, 60, 60, 120]);
+    let spare = rng.range(-5, 60);
+    let every = rng.range(2, 9) as usize;
+    let start = rng.range(0, 300);
+    let mut day = Draft {
+        free: start,
+        pace,
+        rows: Vec::new(),
+    };
+    let mut reach = start + length(1, pace) + rng.range(1, 4);
+    day.rows.push(DraftRow {
+        number: 0,
+        release: reach - length(1, pace),
+        pages: 1,
+        due: (reach + spare).max(0),
+    });
+    // Where the busy desk would be by now.
+    let mut busy = start + length(1, pace);
+    while day.rows.len() < rows {
+        let i = day.rows.len();
+        if i.is_multiple_of(every) {
+            // A long row that the desk could have started before the shorts above.
+            let pages = rng.range(2, 12) * pace / 60 + (reach - busy).max(1) * pace / 60;
+            let pages = pages.clamp(1, 2_000);
+            day.add(busy.min(reach), pages, 100);
+        } else {
+            let gap = rng.range(0, 2 + (i % every) as i64);
+            day.add(reach + gap, 1, 100);
+        }
+        let last = day.rows[i];
+        reach = last.release + day.length(&last);
+        busy = busy.max(start) + day.length(&last);
+    }
+    day.number(rng);
+    day
+}
+
+/// The most rows for which [`many_plans`] has a plan for each row.
+pub const MOST_PLANS: usize = 230;
+
+/// A day with as many plans as rows, up to 230 of each; further rows come last and add no plan.
+///
+/// One long row (2,000 pages at pace 4: 30,000 minutes) is there from the start, and short ones (1
+/// page: 15 minutes) are released so that the desk, if it does them as they come, idles 1, 2, 3 ..
+/// minutes before them. The long row fits in before any of them, or last. The later it is done, the
+/// more idle minutes; but the row that it holds up is then the one that came after the longer gap,
+/// and less late. That is a plan for each of these choices. The gaps may not outlast the long row,
+/// so there are at most 229. The further rows are released when the busy desk would be through.
+pub fn many_plans(rows: usize) -> Draft {
+    assert!((2..=MAX_ROWS).contains(&rows));
+    const SHORT: i64 = 15;
+    const LONG: i64 = 30_000;
+    let shorts = rows.min(MOST_PLANS) as i64 - 1;
+    let mut day = Draft {
+        free: 0,
+        pace: 4,
+        rows: Vec::new(),
+    };
+    let mut add = |release: i64, pages: i64| {
+        let number = 1_000 + day.rows.len() as u32;
+        // No row has any spare.
+        let due = release + length(pages, 4);
+        day.rows.push(DraftRow {
+            number,
+            release,
+            pages,
+            due,
+        });
+    };
+    let mut minute = 0;
+    for gap in 1..=shorts {
+        add(minute + gap, 1);
+        minute += gap + SHORT;
+    }
+    add(0, 2_000);
+    for _ in MOST_PLANS..rows {
+        add(LONG + SHORT * shorts, 1);
+    }
+    day
+}
+
+/// A day as a bureau may have it: steady work of mixed sizes, some idle minutes, dues some hours
+/// after the work could be done, and now and then a shorter promise.
+pub fn typical_day(rng: &mut Rng, rows: usize) -> Draft {
+    let pace = rng.range(20, 40);
+    let mut arrivals = Vec::new();
+    let mut minute = 480;
+    for _ in 0..rows {
+        let pages = match rng.below(10) {
+            0 => rng.range(30, 120),
+            1..=3 => rng.range(10, 30),
+            _ => rng.range(1, 10),
+        };
+        arrivals.push((minute, pages));
+        // A little more than the mean length of a row between two of them.
+        minute += rng.range(0, 62 * 60 / pace);
+    }
+    arrivals.sort_by_key(|&(release, pages)| release + length(pages, pace));
+    let mut day = Draft {
+        free: 480,
+        pace,
+        rows: Vec::new(),
+    };
+    let (release, pages) = arrivals[0];
+    day.rows.push(DraftRow {
+        number: 0,
+        release,
+        pages,
+        due: release + length(pages, pace) + 600,
+    });
+    for &(release, pages) in &arrivals[1..] {
+        let slack = if rng.one_in(20) { 50 } else { 100 };
+        day.add(release, pages, slack);
+    }
+    day.number(rng);
+    day
+}
+
+// ---- Damage ----
+
+/// The kinds and limits of the words, by kind.
+const RANGES: [(u32, u32, u32); 5] = [
+    (1, 0, 10_000_000),
+    (2, 4, 120),
+    (4, 0, 10_000_000),
+    (5, 1, 2_000),
+    (6, 0, 20_000_000),
+];
+const TOP: u32 = (1 << 29) - 1;
+
+/// Damages a book at least once; it may be refused for another reason than was meant, or stay sound.
+pub fn damaged(rng: &mut Rng, book: &[u32]) -> Vec<u32> {
+    let mut book = book.to_vec();
+    let blows = rng.pick(&[1, 1, 1, 1, 2, 2, 3]);
+    for _ in 0..blows {
+        let way = 1 + rng.below(WAYS) as u32;
+        damage(rng, &mut book, way);
+    }
+    book
+}
+
+/// The number of ways of [`damage`]: those of the refusals 1 to 8, and seven more.
+pub const WAYS: usize = 15;
+
+/// Damages a book: `way` 1 to 8 aims at the refusal of that number.
+pub fn damage(rng: &mut Rng, book: &mut Vec<u32>, way: u32) {
+    let len = book.len();
+    if len < 7 {
+        book.push(rng.next() as u32);
+        return;
+    }
+    let rows = (len - 3) / 4;
+    let at = rng.below(len);
+    match way {
+        1 => book.truncate(at),
+        2 => {
+            let other = 1 + rng.below(7) as u32;
+            book[at] = (book[at] >> 29 ^ other) << 29 | book[at] & TOP;
+            if rng.one_in(4) {
+                book[at] = word(7, (at.saturating_sub(2) / 4) as u32);
+            }
+        }
+        3 => {
+            // The first word from here on that has a range.
+            let ranged = (at..len).chain(0..at).find_map(|i| {
+                let kind = book[i] >> 29;
+                let range = RANGES.iter().find(|range| range.0 == kind)?;
+                Some((i, *range))
+            });
+            if let Some((i, (kind, from, to))) = ranged {
+                let far = TOP - rng.below(1_000) as u32;
+                let above = rng.pick(&[to + 1, to + 2, far, TOP]);
+                let below = from.saturating_sub(1);
+                let wrong = if rng.one_in(2) { above } else { below };
+                book[i] = word(kind, wrong);
+            }
+        }
+        4 if rows >= 2 => {
+            let later = 1 + rng.below(rows - 1);
+            let earlier = rng.below(later);
+            book[2 + 4 * later] = book[2 + 4 * earlier];
+        }
+        5 => {
+            // Rows like the last one, up to row 257 and sometimes beyond.
+            let last: Vec<u32> = book[len - 5..len - 1].to_vec();
+            book.pop();
+            let goal = rng.pick(&[256, 257, 257, 258]);
+            let mut number = rng.next() as u32 & TOP;
+            while (book.len() - 2) / 4 < goal {
+                number = (number + 1) & TOP;
+                book.push(word(3, number));
+                book.extend(&last[1..]);
+            }
+            if goal > MAX_ROWS && rng.one_in(3) {
+                // Row 257 has the number of an earlier row besides.
+                book[2 + 4 * MAX_ROWS] = book[2 + 4 * rng.below(MAX_ROWS)];
+            }
+            if rng.one_in(3) {
+                book.truncate(1027 + rng.below(3));
+            } else {
+                book.push(word(7, goal as u32));
+            }
+        }
+        6 => {
+            let count = book[len - 1] & TOP;
+            let wrong = [0, count + 1, count.wrapping_sub(1), count + 256, TOP];
+            book[len - 1] = word(7, rng.pick(&wrong) & TOP);
+        }
+        7 => {
+            let more = rng.pick(&[1, 1, 2, 5, 300]);
+            for _ in 0..more {
+                let next = match rng.below(3) {
+                    0 => rng.next() as u32,
+                    1 => book[len - 1],
+                    _ => book[rng.below(len)],
+                };
+                book.push(next);
+            }
+        }
+        8 if rows >= 2 => {
+            // A due moved: by the least step, or by far.
+            let row = rng.below(rows);
+            let due = &mut book[5 + 4 * row];
+            let step = rng.pick(&[1, 1, 2, 50, 100_000]);
+            *due = match rng.one_in(2) {
+                true => due.wrapping_add(step),
+                false => due.wrapping_sub(step),
+            };
+        }
+        9 => {
+            // Bits that flip.
+            for _ in 0..rng.pick(&[1, 1, 2, 8]) {
+                book[rng.below(len)] ^= 1 << rng.below(32);
+            }
+        }
+        10 => {
+            book.remove(at);
+        }
+        11 => {
+            let new = match rng.below(2) {
+                0 => rng.next() as u32,
+                _ => book[rng.below(len)],
+            };
+            book.insert(at, new);
+        }
+        12 => {
+            let other = rng.below(len);
+            book.swap(at, other);
+        }
+        13 if rows >= 2 => {
+            // Two rows changed about.
+            let (a, b) = (rng.below(rows), rng.below(rows));
+            for word in 0..4 {
+                book.swap(2 + 4 * a + word, 2 + 4 * b + word);
+            }
+        }
+        14 => {
+            // A value of its kind changed, within the range or not.
+            let limit = rng.pick(&[2, 20, 2_100, TOP]);
+            book[at] = word(book[at] >> 29, rng.next() as u32 % limit);
+        }
+        _ => book[at] = rng.next() as u32,
+    }
+}
+
+/// Words by chance: all of them, or only the values in a sequence of the right kinds.
+pub fn random_words(rng: &mut Rng, most: usize) -> Vec<u32> {
+    let len = rng.below(most + 1);
+    let right_kinds = rng.one_in(2);
+    let limit = rng.pick(&[1, 10, 100, 2_000, TOP]);
+    (0..len)
+        .map(|i| {
+            let any = rng.next() as u32;
+            match (right_kinds, i) {
+                (false, _) => any,
+                (true, 0) => word(1, any % limit),
+                (true, 1) => word(2, 4 + any % limit.min(130)),
+                (true, i) if i + 1 == len && rng.one_in(2) => word(7, (i as u32 - 2) / 4),
+                (true, i) => word(3 + (i as u32 - 2) % 4, 1 + any % limit),
+            }
+        })
+        .collect()
+}

@@ -1,0 +1,55 @@
+//! The planner's calls for Rust, and what they are tested with.
+//!
+//! - [`linked`]: the declarations of the archive and a safe wrapper over them (feature `archive`).
+//! - [`model`]: a second implementation of document 01, written from that paper alone.
+//! - [`books`]: a seeded maker of books, sound and damaged.
+
+pub mod books;
+#[cfg(feature = "archive")]
+pub mod linked;
+pub mod model;
+
+/// The version of the boundary, as in `include/jelvaksna.h`.
+pub const VERSION: &str = "1.0";
+
+/// The numbers of the refusals.
+pub mod refusal {
+    pub const CUT: u32 = 1;
+    pub const KIND: u32 = 2;
+    pub const RANGE: u32 = 3;
+    pub const TWICE: u32 = 4;
+    pub const FULL: u32 = 5;
+    pub const COUNT: u32 = 6;
+    pub const TAIL: u32 = 7;
+    pub const DISORDER: u32 = 8;
+    pub const NARROW: u32 = 9;
+    pub const NOT_POSTING: u32 = 10;
+    pub const UNLISTED: u32 = 11;
+    pub const UNKEPT: u32 = 12;
+}
+
+/// Why a call is turned down, and where.
+#[derive(Clone, Copy, Debug, PartialEq, Eq)]
+pub struct Refusal {
+    pub number: u32,
+    pub place: usize,
+}
+
+/// The end and the worst lateness of an order.
+#[derive(Clone, Copy, Debug, PartialEq, Eq, PartialOrd, Ord)]
+pub struct Pair {
+    pub end: u32,
+    pub late: i32,
+}
+
+impl Pair {
+    /// Both numbers no greater than the other's, and one smaller.
+    pub fn beats(self, other: Pair) -> bool {
+        self.end <= other.end && self.late <= other.late && self != other
+    }
+}
+
+/// The word of a kind with a value.
+pub const fn word(kind: u32, value: u32) -> u32 {
+    kind << 29 | value
+}

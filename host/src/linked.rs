@@ -1,0 +1,163 @@
+//! The archive's calls: the declarations, each call with its plain answer, and a typed wrapper.
+
+use crate::{Pair, Refusal};
+
+/// What every call answers. Fields that a case does not speak of are 0.
+#[repr(C)]
+#[derive(Clone, Copy, Debug, Default, PartialEq, Eq)]
+pub struct Answer {
+    pub place: usize,
+    pub count: usize,
+    pub refusal: u32,
+    pub end: u32,
+    pub late: i32,
+}
+
+const _: () = assert!(
+    std::mem::size_of::<Answer>() == 32
+        && std::mem::offset_of!(Answer, count) == 8
+        && std::mem::offset_of!(Answer, refusal) == 16
+        && std::mem::offset_of!(Answer, end) == 20
+        && std::mem::offset_of!(Answer, late) == 24
+);
+
+/// The exported functions, as include/jelvaksna.h declares them.
+pub mod raw {
+    use super::Answer;
+
+    extern "C" {
+        pub fn jelvaksna_list(
+            book: *const u32,
+            book_len: usize,
+            result: *mut u32,
+            result_len: usize,
+        ) -> Answer;
+        pub fn jelvaksna_order_for_bound(
+            book: *const u32,
+            book_len: usize,
+            bound: i32,
+            result: *mut u32,
+            result_len: usize,
+        ) -> Answer;
+        pub fn jelvaksna_order_of_plan(
+            book: *const u32,
+            book_len: usize,
+            plan: u32,
+            result: *mut u32,
+            result_len: usize,
+        ) -> Answer;
+        pub fn jelvaksna_verdict(
+            book: *const u32,
+            book_len: usize,
+            posting: *const u32,
+            posting_len: usize,
+        ) -> Answer;
+        pub fn jelvaksna_row_place(book: *const u32, book_len: usize, row: u32) -> Answer;
+    }
+}
+
+/// The calls on slices, with the answer as it comes.
+pub mod plain {
+    use super::{raw, Answer};
+
+    pub fn list(book: &[u32], result: &mut [u32]) -> Answer {
+        // SAFETY: both slices are live and aligned for the call, and `result` is lent alone.
+        unsafe { raw::jelvaksna_list(book.as_ptr(), book.len(), result.as_mut_ptr(), result.len()) }
+    }
+
+    pub fn order_for_bound(book: &[u32], bound: i32, result: &mut [u32]) -> Answer {
+        // SAFETY: as for `list`.
+        unsafe {
+            raw::jelvaksna_order_for_bound(
+                book.as_ptr(),
+                book.len(),
+                bound,
+                result.as_mut_ptr(),
+                result.len(),
+            )
+        }
+    }
+
+    pub fn order_of_plan(book: &[u32], plan: u32, result: &mut [u32]) -> Answer {
+        // SAFETY: as for `list`.
+        unsafe {
+            raw::jelvaksna_order_of_plan(
+                book.as_ptr(),
+                book.len(),
+                plan,
+                result.as_mut_ptr(),
+                result.len(),
+            )
+        }
+    }
+
+    pub fn verdict(book: &[u32], posting: &[u32]) -> Answer {
+        // SAFETY: both slices are live and aligned for the call; neither is written.
+        unsafe {
+            raw::jelvaksna_verdict(book.as_ptr(), book.len(), posting.as_ptr(), posting.len())
+        }
+    }
+
+    pub fn row_place(book: &[u32], row: u32) -> Answer {
+        // SAFETY: the slice is live and aligned for the call.
+        unsafe { raw::jelvaksna_row_place(book.as_ptr(), book.len(), row) }
+    }
+}
+
+fn told<T>(answer: Answer, of: impl FnOnce(Answer) -> T) -> Result<T, Refusal> {
+    match answer.refusal {
+        0 => Ok(of(answer)),
+        number => Err(Refusal {
+            number,
+            place: answer.place,
+        }),
+    }
+}
+
+fn pair(answer: Answer) -> Pair {
+    Pair {
+        end: answer.end,
+        late: answer.late,
+    }
+}
+
+/// Writes the listed plans, two words each, and gives how many there are.
+pub fn list(book: &[u32], result: &mut [u32]) -> Result<usize, Refusal> {
+    told(plain::list(book, result), |a| a.count)
+}
+
+/// Writes the order for a bound, one row number a word, and gives its pair.
+pub fn order_for_bound(book: &[u32], bound: i32, result: &mut [u32]) -> Result<Pair, Refusal> {
+    told(plain::order_for_bound(book, bound, result), pair)
+}
+
+/// Writes the order of a listed plan, counted from 1, and gives its pair.
+pub fn order_of_plan(book: &[u32], plan: u32, result: &mut [u32]) -> Result<Pair, Refusal> {
+    told(plain::order_of_plan(book, plan, result), pair)
+}
+
+/// The pair of a posted order, and the first listed plan that beats it.
+pub fn verdict(book: &[u32], posting: &[u32]) -> Result<(Pair, Option<usize>), Refusal> {
+    told(plain::verdict(book, posting), |a| {
+        (pair(a), (a.count != 0).then_some(a.count))
+    })
+}
+
+/// The four words of a row, counted from 1, out of the book that was lent.
+pub fn row_words(book: &[u32], row: u32) -> Result<&[u32], Refusal> {
+    told(plain::row_place(book, row), |a| a.place).map(|place| &book[place..place + 4])
+}
+
+/// The listed plans as pairs.
+pub fn plans(book: &[u32]) -> Result<Vec<Pair>, Refusal> {
+    // Two words for each row: a book's rows take four words each.
+    let mut result = vec![0; book.len() / 2];
+    let count = list(book, &mut result)?;
+    Ok(result[..2 * count]
+        .chunks_exact(2)
+        .map(|p| Pair {
+            end: p[0],
+            late: p[1] as i32,
+        })
+        .collect())
+}

@@ -1,0 +1,290 @@
+//! The archive against the model: every call, on books long and short, accepted and damaged, with
+//! guard words around every result buffer.
+//!
+//! `JELVAKSNA_SEED` sets the seed, `JELVAKSNA_TIMES` multiplies the number of books.
+
+mod common;
+
+use common::{calls, compare, Call, Case, Effort};
+use jelvaksna::books::{self, Draft, Rng};
+use jelvaksna::model::{Day, MAX_ROWS};
+use jelvaksna::{linked, word, Pair, Refusal};
+
+/// Makes books and compares all the calls that suit them.
+fn books(
+    test: &'static str,
+    count: u64,
+    effort: Effort,
+    mut make: impl FnMut(&mut Rng, u64) -> Vec<u32>,
+) {
+    let (mut made, mut accepted, mut plans) = (0, 0, 0);
+    for i in 0..count {
+        let case = Case::new(test, i);
+        let mut rng = case.rng();
+        let book = make(&mut rng, i);
+        let day = Day::read(&book);
+        for call in calls(&mut rng, &day, effort) {
+            compare(case, &book, &day, &call);
+            made += 1;
+        }
+        if let Ok(day) = &day {
+            accepted += 1;
+            plans = plans.max(day.list().len());
+        }
+    }
+    let seed = books::seed();
+    println!("{test}: seed {seed:#x}, {count} books, {accepted} accepted, at most {plans} plans, {made} calls");
+}
+
+#[test]
+fn short_books() {
+    let count = 8_000 * books::times();
+    books("short books", count, Effort::All, |rng, _| {
+        let rows = 1 + rng.below(12);
+        books::accepted(rng, rows).words()
+    });
+}
+
+#[test]
+fn middling_books() {
+    let count = 800 * books::times();
+    books("middling books", count, Effort::All, |rng, _| {
+        let rows = rng.range(13, 48) as usize;
+        books::accepted(rng, rows).words()
+    });
+}
+
+#[test]
+fn long_books() {
+    let count = 120 * books::times();
+    books("long books", count, Effort::Few, |rng, i| {
+        let rows = match i % 3 {
+            0 => MAX_ROWS,
+            _ => rng.range(49, MAX_ROWS as i64) as usize,
+        };
+        match i % 4 {
+            0 => books::typical_day(rng, rows),
+            1 => books::contests(rng, rows),
+            _ => books::accepted(rng, rows),
+        }
+        .words()
+    });
+}
+
+#[test]
+fn books_with_a_plan_for_each_row() {
+    books("many plans", 24, Effort::All, |_, i| {
+        books::many_plans(i as usize + 2).words()
+    });
+    let long = [64, 100, MAX_ROWS];
+    books("very many plans", 3, Effort::Few, |_, i| {
+        books::many_plans(long[i as usize]).words()
+    });
+}
+
+#[test]
+fn damaged_books() {
+    let count = 40_000 * books::times();
+    books("damaged books", count, Effort::Few, |rng, _| {
+        let rows = 1 + rng.below(10);
+        let book = books::accepted(rng, rows).words();
+        books::damaged(rng, &book)
+    });
+}
+
+#[test]
+fn damaged_long_books() {
+    let count = 1_500 * books::times();
+    books("damaged long books", count, Effort::Few, |rng, i| {
+        let rows = if i % 4 == 0 {
+            MAX_ROWS
+        } else {
+            1 + rng.below(MAX_ROWS)
+        };
+        let book = books::typical_day(rng, rows).words();
+        books::damaged(rng, &book)
+    });
+}
+
+#[test]
+fn random_words() {
+    let count = 20_000 * books::times();
+    books("random words", count, Effort::Few, |rng, _| {
+        let most = rng.pick(&[3, 12, 40, 1100]);
+        books::random_words(rng, most)
+    });
+}
+
+/// Every word of a small book, and the word after row 256, with every kind and telling values; every
+/// cut of a full book.
+#[test]
+fn every_place() {
+    let test = "every place";
+    let rows = [(901, 1, 1, 5), (902, 0, 10, 12), (903, 20, 5, 27)];
+    let sound = Draft::of(0, 60, &rows).words();
+    let mut values = vec![
+        0, 1, 2, 3, 4, 5, 12, 119, 120, 121, 901, 902, 1_999, 2_000, 2_001,
+    ];
+    values.extend([
+        10_000_000,
+        10_000_001,
+        20_000_000,
+        20_000_001,
+        (1 << 29) - 1,
+    ]);
+    let mut made = 0;
+    let mut check = |book: &[u32]| {
+        let case = Case::new(test, made);
+        let day = Day::read(book);
+        for call in calls(&mut case.rng(), &day, Effort::Few) {
+            compare(case, book, &day, &call);
+        }
+        made += 1;
+    };
+    for at in 0..sound.len() {
+        for kind in 0..8 {
+            for &value in &values {
+                let mut book = sound.clone();
+                book[at] = word(kind, value);
+                check(&book);
+                book.push(book[at]);
+                check(&book);
+            }
+        }
+    }
+    let full = books::typical_day(&mut Rng::new(1), MAX_ROWS).words();
+    for len in 0..=full.len() {
+        check(&full[..len]);
+    }
+    // After row 256: every kind, with numbers that stand in the book and numbers that do not.
+    let at = full.len() - 1;
+    values.extend([
+        255,
+        256,
+        257,
+        full[2] & 0x1fff_ffff,
+        full[at - 4] & 0x1fff_ffff,
+    ]);
+    for kind in 0..8 {
+        for &value in &values {
+            let mut book = full.clone();
+            book[at] = word(kind, value);
+            check(&book);
+            book.extend(&full[at - 3..]);
+            check(&book);
+        }
+    }
+    println!("{test}: {made} books");
+}
+
+/// Every row, every plan and every bound near a lateness, on a few days.
+#[test]
+fn every_number() {
+    let test = "every number";
+    for i in 0..40 {
+        let case = Case::new(test, i);
+        let mut rng = case.rng();
+        let rows = 1 + rng.below(30);
+        let book = books::several_plans(&mut rng, rows).words();
+        let day = Day::read(&book);
+        let read = day.as_ref().expect("accepted");
+        let (rows, plans) = (read.rows.len(), read.list().to_vec());
+        for row in 0..rows as u32 + 3 {
+            compare(case, &book, &day, &Call::RowPlace { row });
+        }
+        for plan in 0..plans.len() as u32 + 3 {
+            let len = rows;
+            compare(case, &book, &day, &Call::OrderOfPlan { plan, len });
+        }
+        for bound in plans.iter().flat_map(|p| p.late - 2..=p.late + 2) {
+            let len = rows;
+            compare(case, &book, &day, &Call::OrderForBound { bound, len });
+        }
+        for len in 0..2 * rows + 3 {
+            compare(case, &book, &day, &Call::List { len });
+        }
+    }
+}
+
+/// The worked days of document 01, to whose answers tests/model.rs holds the model.
+#[test]
+fn worked_days() {
+    let two = [(901, 1, 1, 5), (902, 0, 10, 12)];
+    let three = [two[0], two[1], (903, 20, 5, 27)];
+    let four = [two[0], two[1], (903, 101, 1, 104), (904, 100, 20, 122)];
+    let days = [
+        Draft::of(0, 60, &two),
+        Draft::of(0, 60, &three),
+        Draft::of(0, 60, &[two[0], (902, 0, 10, 13)]),
+        Draft::of(0, 60, &[two[0], (902, 0, 10, 14)]),
+        Draft::of(7, 60, &[(1, 3, 4, 10)]),
+        Draft::of(0, 60, &[(1, 0, 2, 5), (2, 0, 2, 5)]),
+        Draft::of(0, 40, &[(1, 0, 7, 11)]),
+        Draft::of(0, 50, &[(1, 0, 1, 2)]),
+        Draft::of(0, 60, &four),
+        Draft::of(0, 60, &[]),
+    ];
+    for (i, draft) in days.iter().enumerate() {
+        let case = Case::new("worked days", i as u64);
+        let book = draft.words();
+        let day = Day::read(&book);
+        for call in calls(&mut case.rng(), &day, Effort::All) {
+            compare(case, &book, &day, &call);
+        }
+        for bound in -3..20 {
+            for len in 0..5 {
+                compare(case, &book, &day, &Call::OrderForBound { bound, len });
+            }
+        }
+        for posting in [[1, 2, 3], [2, 1, 3], [3, 2, 1], [1, 1, 2], [1, 2, 4]] {
+            let posting = posting.to_vec();
+            compare(case, &book, &day, &Call::Verdict { posting });
+        }
+    }
+}
+
+/// The latest end and lateness that a book can have, and the earliest work.
+#[test]
+fn limits() {
+    let late: Vec<_> = (0..256).map(|i| (i, 10_000_000, 2_000, 0)).collect();
+    let days = [
+        (Draft::of(10_000_000, 4, &late), (17_680_000, 17_680_000)),
+        (Draft::of(0, 60, &[(0, 0, 1, 20_000_000)]), (1, -19_999_999)),
+    ];
+    for (i, (draft, (end, late))) in days.into_iter().enumerate() {
+        let case = Case::new("limits", i as u64);
+        let book = draft.words();
+        let day = Day::read(&book);
+        assert_eq!(day.as_ref().unwrap().list(), [Pair { end, late }]);
+        for call in calls(&mut case.rng(), &day, Effort::All) {
+            compare(case, &book, &day, &call);
+        }
+    }
+}
+
+/// The typed wrapper on the first worked day.
+#[test]
+fn the_wrapper() {
+    let rows = [(901, 1, 1, 5), (902, 0, 10, 12)];
+    let book = Draft::of(0, 60, &rows).words();
+    let pair = |end, late| Pair { end, late };
+    let plans = linked::plans(&book).unwrap();
+    assert_eq!(plans, [pair(11, 6), pair(12, 0)]);
+    let mut order = [0; 2];
+    let given = linked::order_for_bound(&book, 5, &mut order);
+    assert_eq!((given, order), (Ok(pair(12, 0)), [1, 2]));
+    let given = linked::order_of_plan(&book, 1, &mut order);
+    assert_eq!((given, order), (Ok(pair(11, 6)), [2, 1]));
+    assert_eq!(linked::verdict(&book, &[1, 2]), Ok((pair(12, 0), None)));
+    let words = linked::row_words(&book, 2).unwrap();
+    assert!(std::ptr::eq(words, &book[6..10]));
+    let unlisted = Refusal {
+        number: jelvaksna::refusal::UNLISTED,
+        place: 2,
+    };
+    assert_eq!(linked::row_words(&book, 3), Err(unlisted));
+    assert_eq!(
+        linked::plans(&[]).unwrap_err().number,
+        jelvaksna::refusal::CUT
+    );
+}

@@ -1,0 +1,67 @@
+//! The archive against the model with every lent buffer between pages that cannot be touched.
+
+mod common;
+
+use common::{calls, compare_fenced, fence::Fences, Case, Effort};
+use jelvaksna::books::{self, Rng};
+use jelvaksna::model::{Day, MAX_ROWS};
+
+fn fenced(
+    test: &'static str,
+    count: u64,
+    effort: Effort,
+    make: impl Fn(&mut Rng, u64) -> Vec<u32>,
+) {
+    let mut fences = Fences::new();
+    let mut made = 0;
+    for i in 0..count {
+        let case = Case::new(test, i);
+        let mut rng = case.rng();
+        let book = make(&mut rng, i);
+        let day = Day::read(&book);
+        for call in calls(&mut rng, &day, effort) {
+            compare_fenced(case, &book, &day, &call, &mut fences);
+            made += 2;
+        }
+    }
+    let seed = books::seed();
+    println!("fenced {test}: seed {seed:#x}, {count} books, {made} calls");
+}
+
+#[test]
+fn short_books() {
+    let count = 600 * books::times();
+    fenced("short books", count, Effort::All, |rng, i| {
+        let rows = 1 + rng.below(10);
+        let book = books::accepted(rng, rows).words();
+        match i % 2 {
+            0 => book,
+            _ => books::damaged(rng, &book),
+        }
+    });
+}
+
+#[test]
+fn long_books() {
+    let count = 30 * books::times();
+    fenced("long books", count, Effort::Few, |rng, i| {
+        let rows = match i % 2 {
+            0 => MAX_ROWS,
+            _ => 100 + rng.below(157),
+        };
+        let book = books::typical_day(rng, rows).words();
+        match i % 3 {
+            0 => books::damaged(rng, &book),
+            _ => book,
+        }
+    });
+}
+
+/// Every prefix of a book, as long as the buffer that holds it.
+#[test]
+fn every_cut() {
+    let book = books::several_plans(&mut Rng::new(3), 12).words();
+    fenced("cuts", book.len() as u64 + 1, Effort::All, |_, i| {
+        book[..i as usize].to_vec()
+    });
+}

@@ -1,0 +1,137 @@
+/* jelvaksna: the certification desk and its plan list, for C and C++.
+ *
+ * One reader at one desk takes transcripts one after another. A day is lent as
+ * a book of words; each call reads it afresh, keeps nothing, allocates nothing
+ * and needs no setting up. The archive has no data that is written, so calls
+ * may run at the same time on several threads.
+ *
+ * Link with libjelvaksna.a, which `rt staticlib jelvaksna` writes after it has
+ * proved what each call does. This header is kept by hand; host/tests/header.rs
+ * holds it to the exported functions.
+ *
+ * THE BOOK is a run of 32-bit words in the byte order of the machine. The top
+ * three bits of a word are its kind, the low 29 bits its value:
+ *
+ *     kind  word                       value
+ *     1     free minute of the desk    0 to 10,000,000
+ *     2     pace, pages an hour        4 to 120
+ *     3     order number of a row      any, but no number twice
+ *     4     release of the row         0 to 10,000,000
+ *     5     pages of the row           1 to 2,000
+ *     6     due of the row             0 to 20,000,000
+ *     7     end                        the count of rows
+ *
+ * in the sequence 1, 2, then 1 to 256 rows of 3, 4, 5, 6, then 7, and nothing
+ * after it. Times are whole minutes. A row's length is pages * 60 / pace,
+ * rounded up; its spare is due - release - length. From each row to the next
+ * the due may not fall and the spare may not rise.
+ *
+ * Word places count from 0. Rows, plans and the row numbers in an order or a
+ * posting count from 1, in the sequence of the book; they are not the order
+ * numbers of the kind 3 words.
+ *
+ * A PLAN is a pair that some order of all rows attains, its end and its worst
+ * lateness (the largest of end minus due; below 0 where all work is early),
+ * such that no order has both numbers no greater and one of them smaller. The
+ * list has all of them by rising end, so their lateness falls. It never has
+ * more plans than the book has rows.
+ *
+ * WHAT IS LENT. Pointers are aligned for uint32_t, their lengths count words,
+ * and all those words can be read; those of `result` can also be written.
+ * `result` overlaps neither the book nor anything else lent to the same call.
+ * Where a length is 0 the pointer may be NULL. `result` alone is ever written,
+ * on success only, and only as far as each call says; further words of it hold
+ * what they held. A refused call writes nothing.
+ *
+ * THE SEQUENCE OF REFUSALS. The words of the book are tested from the first
+ * on, at one word in the sequence CUT, KIND, FULL, RANGE, TWICE, COUNT. Then
+ * come TAIL, DISORDER, NOT_POSTING, UNLISTED, NARROW, UNKEPT. The first
+ * condition met is the one that is told.
+ */
+#ifndef JELVAKSNA_H
+#define JELVAKSNA_H
+
+#include <stddef.h>
+#include <stdint.h>
+
+#define JELVAKSNA_VERSION "1.0"
+
+/* The refusals, and the place that comes with each. */
+#define JELVAKSNA_CUT 1          /* the book stops where a word is due: its length */
+#define JELVAKSNA_KIND 2         /* another kind is due here: the word */
+#define JELVAKSNA_RANGE 3        /* a value outside its range: the word */
+#define JELVAKSNA_TWICE 4        /* the number of an earlier row: the number word */
+#define JELVAKSNA_FULL 5         /* a number word would open row 257: that word */
+#define JELVAKSNA_COUNT 6        /* the end word differs from the rows read: that word */
+#define JELVAKSNA_TAIL 7         /* a word follows the end word: that word */
+#define JELVAKSNA_DISORDER 8     /* due falls or spare rises: number word of the first such row */
+#define JELVAKSNA_NARROW 9       /* the result is too short: 0 */
+#define JELVAKSNA_NOT_POSTING 10 /* not every row once: see jelvaksna_verdict */
+#define JELVAKSNA_UNLISTED 11    /* no row or plan of that number: how many there are */
+#define JELVAKSNA_UNKEPT 12      /* no order keeps the bound: 0 */
+
+/* Limits. */
+#define JELVAKSNA_MAX_ROWS 256        /* words that any order fits in */
+#define JELVAKSNA_MAX_LIST_WORDS 512  /* words that any list fits in */
+#define JELVAKSNA_MAX_BOOK_WORDS 1027 /* words of the longest accepted book */
+
+/* The word of a kind with a value. */
+#define JELVAKSNA_WORD(kind, value) ((uint32_t)(kind) << 29 | (uint32_t)(value))
+
+#ifdef __cplusplus
+extern "C" {
+#endif
+
+/* What every call answers. Fields that a case does not speak of are 0. */
+typedef struct jelvaksna_answer {
+    size_t place;     /* place of a refusal, or of a row's number word */
+    size_t count;     /* count of plans, or the first plan that beats a posting */
+    uint32_t refusal; /* 0, or the refusal's number, 1 to 12 */
+    uint32_t end;     /* end of the order or the posting */
+    int32_t late;     /* its worst lateness */
+} jelvaksna_answer;
+
+/* The list. `result` has two words for each row of the book or more, whatever
+ * the count of plans; each plan takes two: its end, and its worst lateness in
+ * two's complement, so that (int32_t)result[1] is the first plan's lateness.
+ * Answers `count`, the count of plans, at least 1.
+ * Refused: 1 to 8, NARROW. */
+jelvaksna_answer jelvaksna_list(const uint32_t *book, size_t book_len,
+                                uint32_t *result, size_t result_len);
+
+/* The order for a lateness bound: an order of all rows with no row later than
+ * the bound, which may be negative. For the lateness of a listed plan it is
+ * that plan's order. `result` has one word for each row or more and takes the
+ * row numbers. Answers `end` and `late`, the order's own.
+ * Refused: 1 to 8, NARROW, UNKEPT. */
+jelvaksna_answer jelvaksna_order_for_bound(const uint32_t *book, size_t book_len,
+                                           int32_t bound,
+                                           uint32_t *result, size_t result_len);
+
+/* The order of a listed plan, counted from 1. `result` as for a bound. Answers
+ * `end` and `late`, the plan's pair.
+ * Refused: 1 to 8, UNLISTED with the count of plans, NARROW. */
+jelvaksna_answer jelvaksna_order_of_plan(const uint32_t *book, size_t book_len,
+                                         uint32_t plan,
+                                         uint32_t *result, size_t result_len);
+
+/* The verdict on a posting, an order of rows made by hand. Answers its `end`
+ * and `late`, and in `count` 0 if no order beats it, or else the first listed
+ * plan with both numbers no greater and one smaller.
+ * Refused: 1 to 8, NOT_POSTING. Its place is the smaller of posting_len and
+ * the count of rows where these differ, otherwise the place in the posting,
+ * from 0, of the first entry that is no row or came before. */
+jelvaksna_answer jelvaksna_verdict(const uint32_t *book, size_t book_len,
+                                   const uint32_t *posting, size_t posting_len);
+
+/* Where a row stands, counted from 1. Answers `place`, the place of its number
+ * word: the row's four words are book[place] to book[place + 3].
+ * Refused: 1 to 8, UNLISTED with the count of rows. */
+jelvaksna_answer jelvaksna_row_place(const uint32_t *book, size_t book_len,
+                                     uint32_t row);
+
+#ifdef __cplusplus
+}
+#endif
+
+#endif
