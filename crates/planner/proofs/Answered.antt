@@ -37,7 +37,6 @@ use Rattle.planner.specs.Calls.{Outcome, gives, written, planWords, nth,
 use Rattle.planner.specs.Working.{jobsOf, Apart, Plannable, pairAt, held, Sized}
 use Rattle.planner.proofs.CallLaws.{list-narrow, list-is, bound-is, plan-is, plan-unlisted, verdict-no, verdict-is}
 use Rattle.planner.proofs.Held.{held-length, held-at, nth-in, nth-zero, nth-out}
-use Rattle.planner.proofs.Posting.{posting-order}
 use Rattle.planner.proofs.Plannings.{same-jobs, plannable, plans-rows}
 use Rattle.planner.proofs.Promise.{promise, posted-order}
 

@@ -7,7 +7,7 @@ use mathlib.Core.Path.{_≡_, refl, sym, ap, _∙_, subst}
 use mathlib.Core.List.{List, [], _∷_, _++_, List·Memᴰ, List·Memᴰ·head, List·Memᴰ·tail, List·Memᴰ·not-nil, List·Memᴰ·cases-cons}
 use mathlib.Core.Logic.{_⊎_, inl, inr}
 use mathlib.Core.Option.{Option, none, some}
-use lib.Dec.{T, ltb}
+use lib.Dec.{T}
 use lib.ListN.{length, getElem?}
 use lib.IntN.{ℤ, pos, negsuc}
 use borrow.Author.Tests.{le-ltb, lt-ltb}
@@ -16,7 +16,6 @@ use Rattle.schedule.specs.Rows.{job}
 use Rattle.schedule.specs.Desk.{Pair, pairOf}
 use Rattle.schedule.specs.Plans.{beats, firstBeating}
 use Rattle.schedule.proofs.Signed.{up, down}
-use Rattle.book.specs.declared.Tested.{Tested}
 use Rattle.book.specs.declared.Tested.the-variants as tested
 use Rattle.book.specs.Refusals.{byNarrow, byUnlisted, byUnkept}
 use Rattle.book.specs.Rows.{refused, accepted}

@@ -1,17 +1,17 @@
 -- Property 1 of the calls: numbers of the table, buffers kept on refusal, and buffers of the same length.
 -- Assumes nothing.
-use Prim.Native.Nat.{ℕ, _+_, _-_, _*_, _≤_, _<_}
+use Prim.Native.Nat.{ℕ, _*_, _≤_}
 use native.Mathlib.Omega.{arith}
 use native.Mathlib.Decide.{decLe}
-use mathlib.Core.Path.{_≡_, refl, sym, ap, _∙_, subst}
-use mathlib.Core.List.{List, [], _∷_, _++_}
+use mathlib.Core.Path.{_≡_, refl, sym, ap, _∙_}
+use mathlib.Core.List.{List, [], _∷_}
 use mathlib.Core.Option.{Option, none, some}
 use mathlib.Core.Bool.{Bool, true, false, cond, _||_}
 use lib.Dec.{ltb, eqb}
-use lib.ListN.{length, drop, length-append, length-drop}
+use lib.ListN.{length, length-append, length-drop}
 use lib.IntN.{ℤ}
 use Rattle.schedule.specs.declared.Row.{Row}
-use Rattle.schedule.specs.Rows.{job, allRows}
+use Rattle.schedule.specs.Rows.{job}
 use Rattle.schedule.specs.Desk.{Pair, pairOf}
 use Rattle.schedule.specs.Plans.{firstBeating}
 use Rattle.schedule.proofs.Orders.{perm-count}
@@ -24,23 +24,18 @@ use Rattle.book.specs.Rows.{Contents, refused, accepted}
 use Rattle.book.specs.Book.{readBook, placeOf, placeIn, rowPlace, rowWords, wordsAt}
 use Rattle.book.specs.Refusals.{byUnlisted}
 use Rattle.book.specs.Accepted.{AcceptedBook}
+use Rattle.book.proofs.Tests.{never}
 use Rattle.book.proofs.Accepted.{accepted-book}
 use Rattle.book.proofs.Numbered.{book-numbered}
-use Rattle.planner.specs.declared.Listed.{Listed}
 use Rattle.planner.specs.declared.Listed.the-variants as listed
-use Rattle.planner.specs.declared.Ordered.{Ordered}
 use Rattle.planner.specs.declared.Ordered.the-variants as ordered
-use Rattle.planner.specs.declared.Judged.{Judged}
 use Rattle.planner.specs.declared.Judged.the-variants as judged
 use Rattle.planner.specs.Posting.{postingTests}
-use Rattle.planner.specs.Calls.{Outcome, gives, written, planWords, nth, plansOf, orderOf, listCall, orderOutcome, boundCall, planCall, judgedOf, verdictCall}
-use Rattle.planner.specs.Promise.{LentMemory, LentMemoryOfCalls, Property1}
+use Rattle.planner.specs.Calls.{gives, written, planWords, nth, plansOf, orderOf, listCall, orderOutcome, boundCall, planCall, judgedOf, verdictCall}
+use Rattle.planner.specs.Promise.{LentMemory, Property1}
 use Rattle.planner.proofs.Posting.{posting-number}
 use Rattle.planner.proofs.CallLaws.{list-refused, bound-refused, plan-refused, verdict-refused, list-narrow, list-is, bound-is, plan-is, plan-unlisted, verdict-no, verdict-is, order-narrow, order-some, order-none}
 use Rattle.planner.proofs.Promise.{promise}
-
-never : {P : Type 0} → _≡_ {A = ℕ} 0 1 → P
-never e = let x : ⊥ = omega arith in absurd x
 
 -- A refusal of the list, of an order; a list; an order.
 list-no : (n p : ℕ) (b : List ℕ) → (1 ≤ n) × (n ≤ 12) → LentMemory listed.Refused (gives (listed.Refused n p) b) b

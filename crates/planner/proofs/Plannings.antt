@@ -1,44 +1,38 @@
 -- From columns to rows: what the core answers for the columns of a table is what the definitions say of its rows.
 -- Assumes nothing.
-use Prim.Native.Nat.{ℕ, _+_, _≤_, _<_}
+use Prim.Native.Nat.{ℕ, _≤_, _<_}
 use native.Mathlib.Omega.{arith}
 use mathlib.Core.Path.{_≡_, refl, sym, ap, _∙_, subst}
-use mathlib.Core.List.{List, _++_, map, List·Memᴰ}
+use mathlib.Core.List.{List, _++_}
 use mathlib.Core.Option.{Option, none, some}
-use lib.ListN.{length, take, drop}
-use lib.IntN.{ℤ, pos, negsuc}
-use lib.Signed.{mag}
+use lib.ListN.{length, drop}
+use lib.IntN.{ℤ}
 use Rattle.theory.specs.Jobs.{Job}
 use Rattle.schedule.specs.declared.Row.{Row}
 use Rattle.schedule.specs.Rows.{job, allRows, countFrom}
-use Rattle.schedule.specs.Desk.{Pair, OrderOf, pairOf, endOf}
+use Rattle.schedule.specs.Desk.{pairOf, endOf}
 use Rattle.schedule.specs.Picks.{orderFor}
 use Rattle.schedule.specs.Plans.{plans}
-use Rattle.schedule.specs.Promise.{Agreeing, Promise}
-use Rattle.schedule.specs.Ranges.{Ranged}
+use Rattle.schedule.specs.Promise.{Agreeing}
 use Rattle.schedule.specs.Offset.{raised, lowered}
-use Rattle.schedule.proofs.Signed.{up, down, leZ→}
+use Rattle.schedule.proofs.Orders.{perm-count}
 use Rattle.schedule.proofs.Numbers.{length-count}
 use Rattle.schedule.proofs.Promise.{promised}
-use Rattle.schedule.proofs.Ranges.{in-range}
-use Rattle.schedule.proofs.Words.{lowered-raised}
+use Rattle.book.proofs.Tests.{never}
+use Rattle.core.proofs.Signs.{late-lowers}
+use Rattle.core.proofs.Lists.{plan-lowers}
 use Rattle.book.specs.Accepted.{AcceptedBook}
 use Rattle.core.specs.declared.Front.{Front}
 use Rattle.core.specs.declared.Planned.{Planned}
 use Rattle.core.specs.declared.Planned.the-variants.{Kept, Unkept}
-use Rattle.core.specs.Columns.{Limits}
 use Rattle.core.specs.Answers.{plannedOf, writtenOf, Listed}
 use Rattle.core.specs.Answers.{Ordered as CoreOrdered}
 use Rattle.planner.specs.declared.Columns.{Columns}
-use Rattle.planner.specs.declared.Ordered.{Ordered}
 use Rattle.planner.specs.declared.Ordered.the-variants as ordered
-use Rattle.planner.specs.Calls.{Outcome, gives, written, plansOf, orderOf, orderOutcome}
+use Rattle.planner.specs.Calls.{gives, written, plansOf, orderOf, orderOutcome}
 use Rattle.planner.specs.Working.{jobsOf, Apart, Plannable, pairsOf, held, Sized}
 use Rattle.planner.proofs.CallLaws.{order-narrow, order-some, order-none}
 use Rattle.planner.proofs.Held.{pairs-back}
-
-never : {P : Type 0} → _≡_ {A = ℕ} 0 1 → P
-never e = let x : ⊥ = omega arith in absurd x
 
 -- The columns of a table of an accepted book are plannable.
 module _ {rows : List Row} {c : Columns} (a : Apart rows c) where
@@ -67,41 +61,12 @@ module _ {rows : List Row} {c : Columns} (a : Apart rows c) where
   order-rows : (n free : ℕ) → n ≡ length rows → (y : ℤ) → orderFor (jobsOf c) free (countFrom 1 n) y ≡ orderOf rows free y
   order-rows n free e y = λ x. orderFor (same-jobs x) free (countFrom 1 (e x)) y
 
--- Latenesses of the rows in columns are signed 32-bit numbers, and come back from what they are raised to.
 module _ (c : Columns) (n free : ℕ) (p : Plannable c n free) where
-  some-rows : 0 < length (countFrom 1 n)
-  some-rows = omega (arith, length-count 1 n, p .some)
-
-  promise : Promise (jobsOf c) free (countFrom 1 n)
-  promise = promised (jobsOf c) free (countFrom 1 n) (p .agree) some-rows
-
-  ranged : Ranged 10000000 0 30000 20000000 256 (jobsOf c) free (countFrom 1 n)
-  ranged = record {
-    early = p .early;
-    few = omega (arith, length-count 1 n, p .few);
-    ranges = λ i m. (p .limits .releases i, omega arith, p .limits .lengths i, p .limits .dues i);
-  }
-
-  small : (z : ℤ) → up z ≤ 17680000 + down z → down z ≤ up z + 20000000 → mag z < 2147483648
-  small (pos k) h l = omega arith
-  small (negsuc k) h l = omega arith
-
-  late-back : (order : List ℕ) → OrderOf (countFrom 1 n) order → lowered (raised (pairOf (jobsOf c) free order .late)) ≡ pairOf (jobsOf c) free order .late
-  late-back order o =
-      let r = in-range 10000000 0 30000 20000000 256 (jobsOf c) free (countFrom 1 n) ranged some-rows order o in
-      let y = pairOf (jobsOf c) free order .late in
-      lowered-raised y (small y (omega (arith, leZ→ y (pos 17680000) (r .1 .le))) (omega (arith, leZ→ (negsuc 19999999) y (r .2 .le))))
-
-  plan-back : (q : Pair) → List·Memᴰ q (plans (jobsOf c) free (countFrom 1 n)) → lowered (raised (q .late)) ≡ q .late
-  plan-back q m =
-      let u = promise .belongs q .0 m .0 in
-      subst (λ (r : Pair). lowered (raised (r .late)) ≡ r .late) (u .1 .1) (late-back (u .0) (u .1 .0))
-
   -- The list that the core makes holds the plans.
   pub plans-held : (f : Front) → Listed (jobsOf c) n free f → Sized f × (held f ≡ plans (jobsOf c) free (countFrom 1 n))
   plans-held f l = (
     record { few = omega (arith, l .few, p .few); ends = l .end-places; lates = l .late-places },
-    (λ x. pairsOf (l .ends x) (l .lates x)) ∙ pairs-back (plans (jobsOf c) free (countFrom 1 n)) plan-back,
+    (λ x. pairsOf (l .ends x) (l .lates x)) ∙ pairs-back (plans (jobsOf c) free (countFrom 1 n)) (plan-lowers (jobsOf c) n free (p .limits) (p .some) (p .few) (p .early) (p .agree)),
   )
 
   -- The order that the core writes is the one for the bound.
@@ -127,7 +92,9 @@ module _ (c : Columns) (n free : ℕ) (p : Plannable c n free) where
       kept-by (some order) f end late k =
           let g : endOf (jobsOf c) free order ≡ end = cc in
           let h : raised (pairOf (jobsOf c) free order .late) ≡ late = cc in
-          let y : lowered late ≡ pairOf (jobsOf c) free order .late = ap lowered (sym h) ∙ late-back order (promise .best (lowered bound) order f .0) in
+          let o = promised (jobsOf c) free (countFrom 1 n) (p .agree) (omega (arith, length-count 1 n, p .some)) .best (lowered bound) order f .0 in
+          let l = late-lowers (jobsOf c) (p .limits) free order (omega (arith, perm-count o .0, length-count 1 n, p .some)) in
+          let y : lowered late ≡ pairOf (jobsOf c) free order .late = ap lowered (sym h) ∙ l in
           (λ x. gives (ordered.Pair (sym g x) (y x)) (order ++ drop (length order) b)) ∙
           ((λ x. gives (ordered.Pair (pairOf (same-jobs a x) free order .end) (pairOf (same-jobs a x) free order .late)) (order ++ drop (length order) b)) ∙
           sym (order-some rows free (lowered bound) b (omega arith) order (sym (order-rows a n free e (lowered bound)) ∙ f)))

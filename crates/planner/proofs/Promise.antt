@@ -1,6 +1,6 @@
 -- The three properties of the offered calls hold.
 -- Assumes nothing.
-use Prim.Native.Nat.{ℕ, zero, suc, _+_, _*_, _≤_, _<_}
+use Prim.Native.Nat.{ℕ, _*_, _≤_, _<_}
 use native.Mathlib.Omega.{arith}
 use mathlib.Core.Bool.{not}
 use mathlib.Core.Path.{_≡_, refl, sym, ap, _∙_, subst}
@@ -17,8 +17,7 @@ use Rattle.schedule.specs.Desk.{Pair, OrderOf, Attains, pairOf}
 use Rattle.schedule.specs.Plans.{beats, firstBeating}
 use Rattle.schedule.specs.Promise.{Rising}
 use Rattle.schedule.specs.Promise.{Promise as PlansPromise}
-use Rattle.schedule.specs.Ranges.{Ranged}
-use Rattle.schedule.proofs.Signed.{up, down, leZ→}
+use Rattle.schedule.proofs.Signed.{leZ→}
 use Rattle.schedule.proofs.Beats.{beats-worse, unbeaten-worse}
 use Rattle.schedule.proofs.Orders.{perm-orders, orders-perm, orders-length}
 use Rattle.schedule.proofs.Numbers.{length-count}
@@ -29,13 +28,12 @@ use Rattle.book.specs.declared.Tested.the-variants as tested
 use Rattle.book.specs.Rows.{accepted}
 use Rattle.book.specs.Book.{readBook}
 use Rattle.book.specs.Accepted.{AcceptedBook}
-use Rattle.book.proofs.Accepted.{accepted-book}
+use Rattle.book.proofs.Accepted.{accepted-book, accepted-ranged}
 use Rattle.planner.specs.declared.Ordered.the-variants as ordered
-use Rattle.planner.specs.declared.Judged.{Judged}
 use Rattle.planner.specs.declared.Judged.the-variants as judged
 use Rattle.planner.specs.Posting.{postingTests}
 use Rattle.planner.specs.Answers.{saidList, saidOrder, saidVerdict}
-use Rattle.planner.specs.Calls.{gives, written, complement, planWords, nth, plansOf, orderOf, listCall, boundCall, planCall, judgedOf, verdictCall}
+use Rattle.planner.specs.Calls.{gives, written, complement, planWords, nth, plansOf, orderOf, boundCall, planCall, judgedOf, verdictCall}
 use Rattle.planner.specs.Promise.{BookAccepted, signed, plansIn, listedPlans, CallsKeepPromise, Property2, Property3}
 use Rattle.planner.proofs.Posting.{posting-order, order-posting, posting-number}
 use Rattle.planner.proofs.CallLaws.{list-is, bound-is, plan-is, plan-unlisted, verdict-no, verdict-is, order-some, order-none, signed-back, plans-back, first-none, none-first, nth-mem}
@@ -48,13 +46,10 @@ module _ {free : ℕ} {rows : List Row} (a : AcceptedBook free rows) where
   pub promise : PlansPromise (job rows) free (allRows rows)
   promise = promised (job rows) free (allRows rows) (a .agree) some-rows
 
-  ranged : Ranged 10000000 1 30000 20000000 256 (job rows) free (allRows rows)
-  ranged = record { early = a .early; few = omega (arith, length-count 1 (length rows), a .few-rows); ranges = a .ranged }
-
   pub in-limits : BookAccepted free rows
   in-limits = record {
     few-rows = (a .some-row, a .few-rows);
-    ranges = in-range 10000000 1 30000 20000000 256 (job rows) free (allRows rows) ranged some-rows;
+    ranges = in-range 10000000 1 30000 20000000 256 (job rows) free (allRows rows) (accepted-ranged a) some-rows;
   }
 
 -- Property 2.

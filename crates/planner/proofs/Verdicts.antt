@@ -1,34 +1,29 @@
 -- The verdict, as loops make it: one pair against another, the first plan that beats a pair, and the entries of a posting.
 -- Assumes nothing.
-use Prim.Native.Nat.{ℕ, zero, suc, _+_, _-_, _≤_, _<_, min}
+use Prim.Native.Nat.{ℕ, zero, suc, _+_, _≤_, _<_, min}
 use native.Mathlib.Omega.{arith}
 use native.Mathlib.Decide.{ℕ-discrete}
 use native.Mathlib.Numerals.{add-one}
-use mathlib.Core.Bool.{Bool, true, false, not, cond, _&&_, _||_}
-use mathlib.Core.Path.{_≡_, refl, sym, ap, ap₂, _∙_, subst}
+use mathlib.Core.Bool.{Bool, true, false, cond, _||_}
+use mathlib.Core.Path.{_≡_, refl, sym, ap, _∙_, subst}
 use mathlib.Core.List.{List, [], _∷_}
 use mathlib.Core.Option.{Option, none, some}
 use lib.Dec.{ltb, eqb}
 use lib.ListN.{length, take, drop, getD, set, replicate}
 use lib.Seq.{drop-cons, getD-set-same, getD-set-other, drop-length}
 use lib.IntN.{ℤ}
-use borrow.Author.Tests.{le-leb, lt-leb, lt-ltb, le-ltb, eq-eqb, ne-eqb, ltb-true, ltb-false}
+use borrow.Author.Tests.{le-leb, lt-leb, lt-ltb, le-ltb, eq-eqb, ne-eqb, ltb-false}
 use Rattle.schedule.specs.Desk.{Pair}
 use Rattle.schedule.specs.Plans.{beats, firstBeating}
-use Rattle.schedule.specs.Offset.{lowered}
-use Rattle.book.specs.declared.Tested.{Tested}
 use Rattle.book.specs.declared.Tested.the-variants.{Passed, Refused}
 use Rattle.book.specs.Refusals.{byNotPosting, refuseIf, _then_}
-use Rattle.book.proofs.Tests.{or-left, or-right}
+use Rattle.book.proofs.Tests.{never, or-left, or-right}
 use Rattle.core.proofs.Signs.{lowered-le, lowered-lt}
 use Rattle.planner.specs.declared.Judged.the-variants as judged
 use Rattle.planner.specs.Calls.{judgedOf}
 use Rattle.planner.specs.Posting.{among, entryTests, postingTests}
 use Rattle.planner.specs.Working.{pairAt, pairsOf, orZero}
 use Rattle.planner.proofs.Held.{first-length, first-at}
-
-never : {P : Type 0} → _≡_ {A = ℕ} 0 1 → P
-never e = let x : ⊥ = omega arith in absurd x
 
 -- One pair against another: raised latenesses compare as the signed ones do.
 module _ (e l f m : ℕ) where

@@ -1,6 +1,6 @@
 -- The whole outcome of each offered call: from the book, what is asked and the buffer's contents to the answer and the buffer's contents.
 -- Refusals in their sequence: 1 to 8, 10, 11, 9, 12. (The words of a row and their place are in the book's specs.) Rests on: Posting, the book, the schedule.
-use Prim.Native.Nat.{ℕ, zero, suc, _+_, _-_, _*_}
+use Prim.Native.Nat.{ℕ, zero, suc, _-_, _*_}
 use mathlib.Core.Bool.{true, false}
 use mathlib.Core.List.{List, [], _∷_, _++_}
 use mathlib.Core.Option.{Option, none, some}
@@ -14,7 +14,7 @@ use Rattle.schedule.specs.Picks.{orderFor}
 use Rattle.schedule.specs.Plans.{plans, firstBeating}
 use Rattle.book.specs.declared.Tested.the-variants as tested
 use Rattle.book.specs.Refusals.{byNarrow, byUnlisted, byUnkept}
-use Rattle.book.specs.Rows.{Contents, refused, accepted}
+use Rattle.book.specs.Rows.{refused, accepted}
 use Rattle.book.specs.Book.{readBook}
 use Rattle.planner.specs.declared.Listed.{Listed}
 use Rattle.planner.specs.declared.Listed.the-variants as listed

@@ -23,7 +23,7 @@ use Rattle.planner.specs.declared.Judged.{Judged}
 use Rattle.planner.specs.declared.Judged.the-variants as judged
 use Rattle.planner.specs.Posting.{openPosting}
 use Rattle.planner.specs.Calls.{Outcome, gives, listCall, boundCall, planCall, verdictCall, openCalls}
-use Rattle.planner.specs.Lines.{Line, Printed, refusal, listing, printed, openLines}
+use Rattle.planner.specs.Lines.{Line, Printed, listing, printed, openLines}
 
 -- A row of a book as the days give it: number, release, pages, due.
 pub data Entry : Type 0 where

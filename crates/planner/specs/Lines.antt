@@ -1,14 +1,14 @@
 -- What `slate` prints of a book: the refusal, or the counts of rows and plans and a line for each plan, with order numbers.
 -- Rests on: Calls.
 use Prim.Native.Nat.{ℕ}
-use mathlib.Core.List.{List, [], _∷_, map}
+use mathlib.Core.List.{List, [], map}
 use mathlib.Core.Option.{Option, none, some}
 use lib.ListN.{length}
 use lib.IntN.{ℤ}
 use Rattle.schedule.specs.declared.Row.{Row}
 use Rattle.schedule.specs.Rows.{row}
 use Rattle.schedule.specs.Desk.{Pair}
-use Rattle.book.specs.Rows.{Contents, refused, accepted}
+use Rattle.book.specs.Rows.{refused, accepted}
 use Rattle.book.specs.Book.{readBook}
 use Rattle.planner.specs.Calls.{plansOf, orderOf}
 

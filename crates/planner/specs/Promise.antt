@@ -4,14 +4,14 @@
 -- The contract of each offered function says that its answer and its buffer at exit are those of its call in Calls (list, order_for_bound,
 -- order_of_plan, verdict) or in the book's specs (row_place, row_words), whatever it is lent and told. So what is said here of the calls holds
 -- of the functions. Rests on: Calls, Answers, the book, the schedule.
-use Prim.Native.Nat.{ℕ, zero, suc, _+_, _-_, _*_, _≤_, _<_}
-use mathlib.Core.Bool.{Bool, cond, not}
+use Prim.Native.Nat.{ℕ, zero, suc, _-_, _*_, _≤_}
+use mathlib.Core.Bool.{cond, not}
 use mathlib.Core.Path.{_≡_}
 use mathlib.Core.List.{List, [], _∷_, List·Memᴰ}
 use mathlib.Core.Logic.{_↔_}
-use mathlib.Core.Option.{Option, none, some}
+use mathlib.Core.Option.{none, some}
 use lib.Dec.{T, ltb}
-use lib.ListN.{length, take}
+use lib.ListN.{length}
 use lib.IntN.{ℤ, pos, negsuc}
 use lib.Signed.{_≤ℤ_}
 use Rattle.schedule.specs.declared.Row.{Row}
@@ -25,7 +25,7 @@ use Rattle.book.specs.Book.{readBook, rowPlace, rowWords}
 use Rattle.planner.specs.declared.Listed.the-variants as listed
 use Rattle.planner.specs.declared.Ordered.the-variants as ordered
 use Rattle.planner.specs.declared.Judged.the-variants as judged
-use Rattle.planner.specs.Answers.{Said, saidList, saidOrder, saidVerdict}
+use Rattle.planner.specs.Answers.{saidList, saidOrder, saidVerdict}
 use Rattle.planner.specs.Calls.{Outcome, gives, written, nth, plansOf, orderOf, listCall, boundCall, planCall, verdictCall}
 
 -- 1. The lent memory. That no call reads or writes outside of it and that every call ends is what the check of the functions shows; that

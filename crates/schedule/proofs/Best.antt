@@ -1,15 +1,15 @@
 -- The order for a bound keeps it and ends soonest; and the same of the pairs that the orders attain.
 -- Assumes nothing.
-use Prim.Native.Nat.{ℕ, zero, suc, _+_, _≤_, _<_}
+use Prim.Native.Nat.{ℕ, _+_, _≤_, _<_}
 use native.Mathlib.Omega.{arith}
-use mathlib.Core.Path.{_≡_, refl, sym, ap, _∙_, subst}
-use mathlib.Core.List.{List, [], _∷_, List·Memᴰ, Memᴰ·map, Memᴰ·of-map}
+use mathlib.Core.Path.{_≡_, refl, sym, subst}
+use mathlib.Core.List.{List, List·Memᴰ, Memᴰ·map, Memᴰ·of-map}
 use mathlib.Core.Option.{Option, none, some}
 use lib.Dec.{T}
 use lib.ListN.{length, length-map}
 use lib.IntN.{ℤ}
 use Rattle.theory.specs.Jobs.{Job, In, Order}
-use Rattle.theory.specs.Picks.{Agree, For}
+use Rattle.theory.specs.Picks.{Agree}
 use Rattle.theory.specs.Bound.{for-keeps, for-best, no-keeps}
 use Rattle.theory.specs.Ends.{EndsAt, for-end}
 use Rattle.schedule.specs.Desk.{Pair, endOf, pairOf, keeps}
@@ -19,7 +19,7 @@ use Rattle.schedule.specs.Promise.{Agreeing}
 use Rattle.schedule.proofs.Orders.{orders-length, takes-orders}
 use Rattle.schedule.proofs.DeskLaws.{keeps-late, late-keeps}
 use Rattle.schedule.proofs.JobsOf.{jobs, jobs-end, on-jobs, jobs-order, keeps-kept, kept-keeps}
-use Rattle.schedule.proofs.Signed.{up, down, _≼_}
+use Rattle.schedule.proofs.Signed.{_≼_}
 use Rattle.schedule.proofs.Search.{FoundOrder, Found, order-found}
 
 -- What is asked of the rows that are planned: they agree, and there is at least one.

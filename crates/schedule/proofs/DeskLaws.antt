@@ -1,6 +1,6 @@
 -- Laws of the desk: idle minutes, and that an order keeps a bound exactly if its worst lateness does.
 -- Assumes nothing.
-use Prim.Native.Nat.{ℕ, _+_, _<_, max}
+use Prim.Native.Nat.{ℕ, _+_, _<_}
 use native.Mathlib.Omega.{arith}
 use mathlib.Core.Path.{_≡_}
 use mathlib.Core.Bool.{Bool, true, false, not, cond, _&&_}

@@ -2,20 +2,17 @@
 -- Assumes nothing.
 use Prim.Native.Nat.{ℕ, _<_, compare, Ordering, Ordering·lt, Ordering·eq, Ordering·gt}
 use native.Mathlib.Omega.{arith}
-use mathlib.Core.Bool.{Bool, true, false, not, cond, _&&_, _||_}
+use mathlib.Core.Bool.{Bool, true, false, not, cond}
 use mathlib.Core.Path.{_≡_, refl, sym, ap, _∙_, subst}
 use mathlib.Core.List.{List, [], _∷_, List·Memᴰ, List·Memᴰ·head, List·Memᴰ·tail, List·Memᴰ·not-nil, List·Memᴰ·cases-cons, Memᴰ·cast}
 use mathlib.Core.Logic.{_⊎_, inl, inr}
 use lib.Dec.{T}
-use lib.IntN.{ℤ}
-use lib.Signed.{leZ}
 use Rattle.theory.specs.Jobs.{Job}
 use Rattle.schedule.specs.Desk.{Pair}
 use Rattle.schedule.specs.Plans.{beats, beatenBy, unbeaten, byOrder, placedByEnd, byEnd, attained, plans}
 use Rattle.schedule.proofs.Tests.{Compared, compared}
-use Rattle.schedule.proofs.Signed.{leZ-trans, leZ-total}
 use Rattle.schedule.proofs.Beats.{same-end}
-use Rattle.schedule.proofs.Tests.{both, parts, nor, nor-both}
+use Rattle.schedule.proofs.Tests.{nor, nor-both}
 
 -- A pair that is attained, and beaten by none that is.
 pub record Listed (all : List Pair) (p : Pair) : Type 0 where

@@ -8,7 +8,7 @@ use mathlib.Core.List.{List, [], _∷_, _++_, map, flatMap, List·Permᴰ, List�
 use mathlib.Core.Logic.{_⊎_, inl, inr}
 use lib.Dec.{T, eqb, eqb→eq, eqb-refl}
 use lib.ListN.{length}
-use Rattle.schedule.specs.Rows.{countFrom, without, withoutAll}
+use Rattle.schedule.specs.Rows.{without, withoutAll}
 use Rattle.schedule.specs.Plans.{ordersOf}
 
 -- How often i stands in a list.

@@ -1,7 +1,6 @@
 -- Lateness as the machine holds it: raised by 2³¹, so that it is a natural and compares as the signed number does.
 -- Rests on: Desk.
 use Prim.Native.Nat.{ℕ, _+_, _-_, max}
-use mathlib.Core.List.{List, [], _∷_}
 use lib.IntN.{ℤ, pos, negsuc, subℕ}
 use Rattle.theory.specs.Jobs.{Job, finish}
 use Rattle.schedule.specs.declared.Desk.{Desk}

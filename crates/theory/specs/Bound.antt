@@ -1,4 +1,5 @@
--- Lemmas 6 to 9: runs, block one when it fits, the order for a bound, the same order for a smaller bound that it keeps.
+-- The order for a bound keeps it and ends soonest, or no order keeps it: runs first, block one where it fits, otherwise block two.
+-- Rests on: First.
 use mathlib.Core.Logic.{_⊎_, inl, inr}
 use mathlib.Core.List.{List, [], _∷_, _++_}
 use Prim.Native.Nat.{ℕ, _+_, _≤_, _<_, max}
@@ -44,7 +45,7 @@ run-moved (go {t} {f} d r) o =
     let v = run-moved r (u .2) in
     (v .0, v .1, take (u .1) (λ j m. p .least j (order-in o m)) (v .2))
 
--- 6. Runs
+-- Runs: for each order there is one no worse that starts with the run.
 pub run-first : {bias : ℕ} {N : List Job} {t : ℕ} {ω N′ π : List Job} → Agree N → Run N t ω N′ → Order π N → (κ : List Job) × Order κ N′ × Better bias t π (ω ++ κ)
 run-first {π} a (halt s) o = (π, o, record { ends = le-refl _; keeps = λ y w. w })
 run-first a (go d r) o =
@@ -52,7 +53,7 @@ run-first a (go d r) o =
     let v = run-first (agree-ins (pick-of d .taken) a) r (u .1) in
     (v .0, v .1, record { ends = le-trans (v .2 .ends) (u .2 .ends); keeps = λ y w. let x = u .2 .keeps y w in (x .0, v .2 .keeps y (x .1)) })
 
--- 7a. What is left when a run stops cannot be done by then, so by agreement it is due no sooner
+-- What is left when a run stops cannot be done by then, so by agreement it is due no sooner.
 stopped-late : {N : List Job} {T : ℕ} → Agree N → Stopped N T → (k : Job) → In k N → T < k .release + k .length
 unfolding ready
 stopped-late a empty = on-nil (λ k. _)
@@ -71,7 +72,7 @@ block-dues N t ω N′ a hb hk s b m k n = step (decLt (k .due) (b .due))
     step (no h) = omega arith
     step (yes h) = omega (arith, a k b (hk k n) (hb b m) h, stopped-late (agree-sub N N′ hk a) s k n, end-in t m)
 
--- 7b. Block one when it fits
+-- Block one in front, when it fits, is no worse.
 maxDue : List Job → ℕ
 maxDue [] = 0
 maxDue (j ∷ l) = max (j .due) (maxDue l)
@@ -114,7 +115,7 @@ one-fits {bias} {N} {t} {f} {M} {ω} {N′} {π} y a p r o w v =
           (λ j q. ins-sub (p .taken) (run-in r q)) (run-stopped r) b i k (order-in (x .1) n)) bias y w v;
     }
 
--- 8. The order for a bound
+-- The order for a bound: a lead is what may be put in front of some order of the rest without ending later or breaking the bound.
 pub starts-lead : {bias : ℕ} {N : List Job} {t : ℕ} {g : Job} {M ω N′ π : List Job} (y : ℕ) → Agree N → Ins g M N → Run M (finish g t) ω N′ → Starts bias g t N π
     → Keeps bias y t π → Lead bias y t π (g ∷ ω) N′
 starts-lead y a i r s w =
@@ -174,7 +175,7 @@ no-keeps {bias} {y} {t} a (no-block {s} {ω₂} b n c m) o w =
 no-keeps {y} a (no-two b n c r) o w =
     lead-none (two-leads y a b n c o w) (λ κ p v. no-keeps (block-in (c .without) (c .run) a) r p v)
 
--- 9. The same order: where the order for a bound keeps a smaller one, it is the order for that one too
+-- The same order: where the order for a bound keeps a smaller one, it is the order for that one too.
 pub for-smaller : {bias y z : ℕ} {N : List Job} {t : ℕ} {θ : List Job} → For bias y N t θ → z ≤ y → Keeps bias z t θ → For bias z N t θ
 for-smaller for-none h w = for-none
 for-smaller (for-run d l r) h w = for-run d (w .0, tt) (for-smaller r h (w .1))

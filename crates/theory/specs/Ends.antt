@@ -1,4 +1,5 @@
--- Lemma 11: at most as many plans as rows.
+-- The end of an order for a bound is one of as many numbers as there are jobs: so there are at most as many plans.
+-- Rests on: Bound.
 use mathlib.Core.Path.{_≡_, refl}
 use mathlib.Core.Logic.{_⊎_, inl, inr}
 use mathlib.Core.List.{List, [], _∷_, _++_}
@@ -13,7 +14,7 @@ use Rattle.theory.specs.FrontMove.{end-from, end-in}
 use Rattle.theory.specs.Picks.{Agree, Pick, Undecided, Run, halt, go, For, for-none, for-run, for-one, for-two}
 use Rattle.theory.specs.Bound.{pick-of, run-order, for-order}
 
--- sums over a list of jobs
+-- Sums over a list of jobs.
 abbrev pub sum : (Job → ℕ) → List Job → ℕ
 sum w [] = 0
 sum w (j ∷ l) = w j + sum w l
@@ -41,7 +42,7 @@ sum-zero w (j ∷ l) h = omega (arith, h j first, sum-zero w l (λ k m. h k (lat
 abbrev pub long : Job → ℕ
 long j = j .length
 
--- F: the length of k where k is released no sooner than j, or due later
+-- What j counts of k: the length of k where k is released no sooner than j, or due later.
 pub only-if : {A : Type 0} → Dec A → ℕ → ℕ → ℕ
 only-if (yes a) n m = n
 only-if (no a) n m = m
@@ -83,7 +84,7 @@ counted-not j k l d =
       if-no (decLt (j .due) (k .due)) (k .length) 0 (omega arith),
     )
 
--- an order built of picks: where a job waits for its release, whatever is left is released no sooner, or due later
+-- An order built of picks: where a job waits for its release, whatever is left is released no sooner, or due later.
 abbrev pub Steps : ℕ → List Job → Type 0
 Steps t [] = Unit {0}
 Steps t (j ∷ β) = ((k : Job) → In k β → t < j .release → Waits j k) × Steps (finish j t) β
@@ -107,7 +108,7 @@ for-steps (for-one b h r) =
 for-steps (for-two b n c h r) =
     (λ k m. second-waits (b .open-at) k (ins-sub (c .without) (order-in (run-order (c .run) (for-order r)) m)), run-steps (c .run) (for-order r) (for-steps r))
 
--- the last stretch without idle time
+-- The last stretch without idle time.
 data Stretch (t : ℕ) : List Job → Type 0 where
   nothing : Stretch t []
   whole : (j : Job) (θ : List Job) → j .release ≤ t → endOf t (j ∷ θ) ≡ t + (j .length + sum long θ) → Stretch t (j ∷ θ)

@@ -1,4 +1,5 @@
--- Lemmas 3, 4, 5: domination, first or second first, decided.
+-- Every order has one no worse that starts with the first or the second pick; with the first, where the machine is decided.
+-- Rests on: Picks, FrontMove, Order.
 use mathlib.Core.Logic.{_⊎_, inl, inr}
 use mathlib.Core.List.{List, [], _∷_, _++_}
 use Prim.Native.Nat.{ℕ, _+_, _≤_, _<_, max}
@@ -14,7 +15,7 @@ use Rattle.theory.specs.Picks.{Agree, Pick, Decided, alone, sooner}
 pub agree-sub : (N M : List Job) → ((j : Job) → In j M → In j N) → Agree N → Agree M
 agree-sub N M h a i j m n l = a i j (h i m) (h j n) l
 
--- 3. Domination
+-- Domination: where a pick s ends in time after a job j, so does j before it.
 pub dominates : {N : List Job} {t : ℕ} {s : Job} {M : List Job} {j : Job} → Agree N → Pick N t s M → In j N → s .due ≤ j .due + s .length
 unfolding ready
 dominates {N} {t} {s} {M} {j} a p m = step (decLt (j .due) (s .due))
@@ -23,7 +24,7 @@ dominates {N} {t} {s} {M} {j} a p m = step (decLt (j .due) (s .due))
     step (no h) = omega arith
     step (yes h) = omega (arith, a j s m (ins-in (p .taken)) h, p .ties j m h)
 
--- no order of what is dominated is late if s still ends in time after it
+-- No order of what is dominated is late if s still ends in time after it.
 pub dominated : (bias : ℕ) (N : List Job) {t : ℕ} {s : Job} {M : List Job} (y t₀ : ℕ) (μ : List Job) → Agree N → Pick N t s M → ((j : Job) → In j μ → In j N)
     → endOf t₀ μ + s .length + bias ≤ s .due + y → Keeps bias y t₀ μ
 dominated bias N y t₀ μ a p sub h = within-end bias (dueBy y) μ t₀ (λ j m. omega (arith, dominates a p (sub j m)))
@@ -32,7 +33,7 @@ pub record Better (bias : ℕ) (t : ℕ) (π π′ : List Job) : Type 0 where
   pub ends : endOf t π′ ≤ endOf t π
   pub keeps : (y : ℕ) → Keeps bias y t π → Keeps bias y t π′
 
--- 5. Decided. The jobs due before d, all released, to the front
+-- Decided. The jobs due before d, all released, to the front.
 pub record Parted (d T : ℕ) (ρ : List Job) : Type 0 where
   pub J : List Job
   pub κ : List Job
@@ -89,7 +90,7 @@ decided-alone : {bias : ℕ} {f : Job} {ρ π : List Job} {t : ℕ} → Order ρ
 decided-alone done here = record { ends = le-refl _; keeps = λ y w. w }
 
 module _ {N : List Job} {t : ℕ} {f : Job} {M : List Job} {s : Job} {L : List Job} (a : Agree N) (p : Pick N t f M) (q : Pick M t s L) (le : f .due ≤ s .due) where
-  -- a job due before f is released by the time f ends
+  -- A job due before f is released by the time f ends.
   soon : (j : Job) → In j M → j .due < f .due → j .release ≤ finish f t
   soon j m l = omega (arith, a j f (ins-sub (p .taken) m) (ins-in (p .taken)) l, finish-bound f t)
 
@@ -120,7 +121,7 @@ pub decided-first : {bias : ℕ} {N : List Job} {t : ℕ} {f : Job} {M π : List
 decided-first a (alone p) o = let r = take-right o (p .taken) in (r .0, r .2, decided-alone (r .2) (r .1))
 decided-first a (sooner p q le) o = let r = take-right o (p .taken) in decided-sooner a p q le o (r .1) (r .2)
 
--- 4. First or second first: h stands after g, g is least ready of the jobs before it, and h dominates these
+-- First or second first: h stands after g, g is least ready of the jobs before it, and h dominates these.
 pub move-end : (g : Job) (t : ℕ) (μ ν : List Job) → Least t g μ → endOf t (g ∷ (μ ++ ν)) ≤ endOf t (μ ++ g ∷ ν)
 move-end g t [] ν h = le-refl _
 move-end g t (x ∷ μ) ν h = le-trans (end-mono (μ ++ ν) (finish-swap g x t (h x first))) (move-end g (finish x t) μ ν (least-later g x t μ h))

@@ -1,4 +1,5 @@
--- Lemmas 1 and 2: monotone, append, front move.
+-- Ends and bounds are monotone and split at an append; a least-ready job moved to the front makes no order end later.
+-- Rests on: Jobs, Order.
 use mathlib.Core.Path.{_≡_, refl}
 use mathlib.Core.List.{List, [], _∷_, _++_}
 use Prim.Native.Nat.{ℕ, _+_, _≤_}
@@ -7,7 +8,7 @@ use native.Mathlib.Omega.{arith}
 use Rattle.theory.specs.Jobs.{Job, ready, finish, endOf, Within, dueBy, Keeps, In, first, later, Ins, here, there, Order, next}
 use Rattle.theory.specs.Order.{ins-in, ins-sub, take-left}
 
--- a job's end
+-- A job's end.
 pub ready-mono : (g j : Job) (t t′ : ℕ) → ready g t ≤ ready j t → t ≤ t′ → ready g t′ ≤ ready j t′
 unfolding ready
 ready-mono g j t t′ h k = omega arith
@@ -36,7 +37,7 @@ pub finish-swap : (g x : Job) (t : ℕ) → ready g t ≤ ready x t → finish x
 unfolding ready finish
 finish-swap g x t h = omega arith
 
--- an order's end
+-- An order's end.
 pub end-mono : (π : List Job) {t t′ : ℕ} → t ≤ t′ → endOf t π ≤ endOf t′ π
 end-mono [] h = h
 end-mono (j ∷ π) h = end-mono π (finish-mono j h)
@@ -53,12 +54,12 @@ pub end-from : (π : List Job) (t : ℕ) → t ≤ endOf t π
 end-from [] t = le-refl _
 end-from (j ∷ π) t = omega (arith, end-from π (finish j t), finish-bound j t)
 
--- each job of an order is done by its end: the start of the order and its own release, plus its length
+-- Each job of an order is done by its end: the start of the order and its own release, plus its length.
 pub end-in : {j : Job} {π : List Job} (t : ℕ) → In j π → (t + j .length ≤ endOf t π) × (j .release + j .length ≤ endOf t π)
 end-in {j} t (first {l}) = omega (arith, end-from l (finish j t), finish-bound j t)
 end-in t (later {x} m) = omega (arith, end-in (finish x t) m, finish-bound x t)
 
--- caps
+-- Caps are kept from an earlier start, and split at an append.
 pub within-mono : (b : ℕ) (cap : Job → ℕ) (π : List Job) {t t′ : ℕ} → t ≤ t′ → Within b cap t′ π → Within b cap t π
 within-mono b cap [] h w = w
 within-mono b cap (j ∷ π) h w = (omega (arith, finish-mono j h, w .0), within-mono b cap π (finish-mono j h) (w .1))
@@ -75,7 +76,7 @@ pub within-right : (b : ℕ) (cap : Job → ℕ) (π ρ : List Job) (t : ℕ) �
 within-right b cap [] ρ t w = w
 within-right b cap (j ∷ π) ρ t w = within-right b cap π ρ (finish j t) (w .1)
 
--- looser caps, and caps that the end itself meets
+-- Looser caps, and caps that the end itself meets.
 pub within-caps : (b : ℕ) (cap cap′ : Job → ℕ) (π : List Job) (t : ℕ) → ((j : Job) → In j π → cap j ≤ cap′ j) → Within b cap t π → Within b cap′ t π
 within-caps b cap cap′ [] t h w = tt
 within-caps b cap cap′ (j ∷ π) t h w = (le-trans (w .0) (h j first), within-caps b cap cap′ π (finish j t) (λ k m. h k (later m)) (w .1))
@@ -91,7 +92,7 @@ within-in b cap t (later {x} m) w = omega (arith, within-in b cap (finish x t) m
 pub keeps-mono : {y z : ℕ} (b t : ℕ) (π : List Job) → y ≤ z → Keeps b y t π → Keeps b z t π
 keeps-mono {y} {z} b t π h w = within-caps b (dueBy y) (dueBy z) π t (λ j m. omega arith) w
 
--- the front move: one job that is least ready
+-- The front move: one job that is least ready.
 abbrev pub Least : ℕ → Job → List Job → Type 0
 Least t g π = (j : Job) → In j π → ready g t ≤ ready j t
 
@@ -112,7 +113,7 @@ front-caps b cap {g} t (there {x} {l′} {l} i) h c w =
     let e : finish g t ≤ finish g (finish x t) = finish-mono g (omega (arith, finish-bound x t)) in
     (omega (arith, v .0), (omega (arith, v .0, c x first), within-mono b cap l′ s (v .1)))
 
--- the front move, iterated: Moved t π ω κ: each job of ω is least ready in what is left of π when it is taken, and κ is left
+-- The front move, iterated: Moved t π ω κ: each job of ω is least ready in what is left of π when it is taken, and κ is left.
 pub data Moved : ℕ → List Job → List Job → List Job → Type 0 where
   none : {t : ℕ} {κ : List Job} → Moved t κ [] κ
   take : {t : ℕ} {g : Job} {ρ π ω κ : List Job} → Ins g ρ π → Least t g π → Moved (finish g t) ρ ω κ → Moved t π (g ∷ ω) κ

@@ -1,4 +1,5 @@
 -- Runs in front of an order for a bound; whether a bound is kept is decided.
+-- Rests on: Picks.
 use mathlib.Core.Path.{_≡_, refl}
 use mathlib.Core.List.{List, [], _∷_, _++_}
 use Prim.Native.Nat.{ℕ, suc, _+_, _≤_}
@@ -21,7 +22,7 @@ decWithin b cap t (j ∷ π) = step (decLe (finish j t + b) (cap j)) (decWithin 
     step (yes a) (no c) = no (λ w. c (w .1))
     step (no a) c = no (λ w. a (w .0))
 
--- a run in front of an order for a bound, or of a search that ends without one
+-- A run in front of an order for a bound, or of a search that ends without one.
 pub run-for : {bias : ℕ} {y : ℕ} {N : List Job} {t : ℕ} {ω N′ θ : List Job} → Run N t ω N′ → Keeps bias y t ω → For bias y N′ (endOf t ω) θ → For bias y N t (ω ++ θ)
 run-for (halt s) k f = f
 run-for (go d r) k f = for-run d (k .0, tt) (run-for r (k .1) f)

@@ -1,8 +1,8 @@
 -- `columns_of` meets its contract. The invariant: the columns hold the rows passed so far. The measure is what is left of the count.
 -- Assumes nothing.
-use Prim.Native.Nat.{ℕ, _≤_, _<_, _+_, _-_}
+use Prim.Native.Nat.{ℕ, _≤_, _-_}
 use native.Mathlib.Omega.{arith}
-use mathlib.Core.Path.{_≡_, refl, sym, ap, _∙_, subst}
+use mathlib.Core.Path.{_≡_, sym, ap, _∙_, subst}
 use mathlib.Core.List.{List}
 use lib.ListN.{take, getD}
 use lib.Seq.{getD-take, take-take}

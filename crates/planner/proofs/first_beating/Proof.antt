@@ -1,9 +1,9 @@
 -- `first_beating` meets its contract. The invariant: what is found from here on is what is found from the start. The measure is what is
 -- left of the count. Assumes nothing.
-use Prim.Native.Nat.{ℕ, _≤_, _<_, _+_, _-_}
+use Prim.Native.Nat.{_≤_, _+_, _-_}
 use native.Mathlib.Omega.{arith}
 use mathlib.Core.Path.{_≡_, refl, sym, _∙_}
-use lib.ListN.{length, take, drop}
+use lib.ListN.{take, drop}
 use borrow.Author.Needs.{needs}
 use Rattle.schedule.specs.Plans.{firstBeating}
 use Rattle.planner.specs.Working.{pairAt, pairsOf}

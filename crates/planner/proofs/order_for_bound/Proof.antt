@@ -3,10 +3,9 @@
 use denote.Ref.{now}
 use native.Mathlib.Omega.{arith}
 use Prim.Native.Nat.{_≤_}
-use mathlib.Core.Path.{_≡_, sym, ap, _∙_}
+use mathlib.Core.Path.{sym, ap, _∙_}
 use borrow.Author.Needs.{needs}
 use Rattle.book.proofs.Readings.{Given, given, turned-down}
-use Rattle.schedule.specs.Offset.{lowered}
 use Rattle.book.specs.Book.{tableRows}
 use Rattle.planner.specs.Calls.{orderOutcome}
 use lib.IntN.{ℤ}

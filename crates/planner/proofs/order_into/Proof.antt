@@ -1,7 +1,7 @@
 -- `order_into` meets its contract: too short a buffer, then what the core answers.
 -- Assumes nothing.
 use native.Mathlib.Omega.{arith}
-use mathlib.Core.Path.{_≡_, ap, sym, _∙_}
+use mathlib.Core.Path.{ap, _∙_}
 use lib.IntN.{ℤ}
 use borrow.Author.Needs.{needs}
 use Rattle.schedule.proofs.Words.{lowered-word}

@@ -3,12 +3,12 @@
 use denote.Ref.{now}
 use native.Mathlib.Omega.{arith}
 use Prim.Native.Nat.{_≤_}
-use mathlib.Core.Path.{_≡_, sym, ap, _∙_}
+use mathlib.Core.Path.{sym}
 use borrow.Author.Needs.{needs}
 use Rattle.book.proofs.Readings.{Given, given, turned-down}
 use Rattle.book.specs.Book.{tableRows}
 use Rattle.planner.proofs.CallLaws.{plan-refused}
-use Rattle.planner.proofs.Answered.{may-plan, few-plans, plan-none, plan-past, plan-done}
+use Rattle.planner.proofs.Answered.{may-plan, plan-none, plan-past, plan-done}
 use Rattle.planner.proofs.order_of_plan.Statement.{statement}
 use Rattle.planner.proofs.order_of_plan.Tie as tie
 

@@ -1,6 +1,6 @@
 -- `write_plans` meets its contract. The invariant: the words of the plans passed so far stand at the buffer's front. The measure is what is
 -- left of the count. Assumes nothing.
-use Prim.Native.Nat.{ℕ, _≤_, _<_, _+_, _*_, _-_}
+use Prim.Native.Nat.{ℕ, _≤_, _+_, _*_, _-_}
 use mathlib.Core.Path.{_≡_, refl, ap, _∙_}
 use mathlib.Core.List.{List}
 use native.Mathlib.Omega.{arith}
