@@ -12,7 +12,7 @@ use borrow.Author.Tests.{eq-eqb, ne-eqb}
 use Rattle.schedule.specs.declared.Row.{Row}
 use Rattle.schedule.specs.Rows.{noRow}
 use Rattle.book.specs.declared.Tested.the-variants.{Passed, Refused}
-use Rattle.book.specs.Refusals.{byDisorder, refuseIf}
+use Rattle.book.specs.Refusals.{byDisorder, refuseIf, _then_}
 use Rattle.book.specs.Rows.{stands}
 use Rattle.book.specs.Order.{disordered, orderTests}
 

@@ -87,6 +87,7 @@ unfolding maxDue
 maxDue-le [] d h = omega arith
 maxDue-le (j ∷ l) d h = omega (arith, h j first, maxDue-le l d (λ k m. h k (later m)))
 
+-- Lead: ω in front of some order κ of the rest N′ ends no later than π and keeps the bound.
 pub record Lead (bias : ℕ) (y t : ℕ) (π ω N′ : List Job) : Type 0 where
   pub κ : List Job
   pub orders : Order κ N′
@@ -115,7 +116,7 @@ one-fits {bias} {N} {t} {f} {M} {ω} {N′} {π} y a p r o w v =
           (λ j q. ins-sub (p .taken) (run-in r q)) (run-stopped r) b i k (order-in (x .1) n)) bias y w v;
     }
 
--- The order for a bound: a lead is what may be put in front of some order of the rest without ending later or breaking the bound.
+-- The order for a bound: what leads, by which way on.
 pub starts-lead : {bias : ℕ} {N : List Job} {t : ℕ} {g : Job} {M ω N′ π : List Job} (y : ℕ) → Agree N → Ins g M N → Run M (finish g t) ω N′ → Starts bias g t N π
     → Keeps bias y t π → Lead bias y t π (g ∷ ω) N′
 starts-lead y a i r s w =

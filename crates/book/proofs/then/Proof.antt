@@ -1,6 +1,7 @@
 -- `then` meets its contract: both variants give the definition's case.
 -- Assumes nothing.
 use borrow.Author.Needs.{needs}
+use Rattle.book.specs.Refusals.{_then_}
 use Rattle.book.proofs.then.Statement.{statement}
 use Rattle.book.proofs.then.Tie as tie
 
