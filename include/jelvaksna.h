@@ -100,8 +100,8 @@ jelvaksna_answer jelvaksna_list(const uint32_t *book, size_t book_len,
                                 uint32_t *result, size_t result_len);
 
 /* The order for a lateness bound: an order of all rows with no row later than
- * the bound, which may be negative. For the lateness of a listed plan it is
- * that plan's order. `result` has one word for each row or more and takes the
+ * the bound, which may be negative; it ends no later than any order that keeps
+ * the bound. For the lateness of a listed plan it is that plan's order. `result` has one word for each row or more and takes the
  * row numbers. Answers `end` and `late`, the order's own.
  * Refused: 1 to 8, NARROW, UNKEPT. */
 jelvaksna_answer jelvaksna_order_for_bound(const uint32_t *book, size_t book_len,
