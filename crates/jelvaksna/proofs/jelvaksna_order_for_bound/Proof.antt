@@ -1,0 +1,34 @@
+-- `jelvaksna_order_for_bound` meets its contract: the call's, through the answer's fields.
+-- Assumes nothing.
+use denote.Ref.{now}
+use lib.IntN.{ℤ}
+use mir.Syntax.{w32}
+use mir.ValLaws.{toZ-ofZ}
+use mathlib.Core.Path.{ap, _∙_}
+use Rattle.planner.specs.declared.Ordered.{Ordered}
+use Rattle.planner.specs.Calls.{Outcome, boundCall}
+use Rattle.planner.specs.Answers.{saidOrder}
+use Rattle.jelvaksna.specs.Boundary.{answerOf}
+use borrow.Author.Needs.{needs}
+use Rattle.jelvaksna.proofs.jelvaksna_order_for_bound.Statement.{statement}
+use Rattle.jelvaksna.proofs.jelvaksna_order_for_bound.Tie as tie
+
+order-for-bound-requires : tie.Need-order-for-bound-requires
+order-for-bound-requires c κs = search needs
+
+of-order-requires : tie.Need-of-order-requires
+of-order-requires c κs = search needs
+
+same-length : tie.Need-same-length
+same-length c = search needs
+
+returns : tie.Need-returns
+returns c =
+    let o = c .before .before .before in
+    let s = o .before .before .before .before in
+    let a = s .args in
+    let q = o .order-for-bound .ensures ∙ ap (λ (y : ℤ). boundCall (now (a .book)) y (now (a .result))) (toZ-ofZ w32 (a .bound) (s .fits .bound)) in
+    (c .of-order .ensures ∙ ap (λ (o : Outcome Ordered). answerOf (saidOrder (o .answer))) q, ap (λ (o : Outcome Ordered). o .buffer) q)
+
+pub jelvaksna-order-for-bound-spec : {M : Type 1} → statement M
+jelvaksna-order-for-bound-spec = tie.close (tie.spec order-for-bound-requires of-order-requires same-length returns)
