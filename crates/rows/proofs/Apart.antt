@@ -11,8 +11,8 @@ use lib.Seq.{getD-set-same, getD-set-other, getD-take}
 use Rattle.schedule.specs.declared.Row.{Row}
 use Rattle.schedule.specs.Rows.{noRow, row, jobOf, job}
 use Rattle.core.specs.Columns.{columns}
-use Rattle.planner.specs.declared.Columns.{Columns}
-use Rattle.planner.specs.Working.{Apart}
+use Rattle.rows.specs.declared.Columns.{Columns}
+use Rattle.rows.specs.Apart.{Apart}
 
 -- Columns of nothing.
 abbrev pub noColumns : Columns
