@@ -26,7 +26,7 @@ use Rattle.book.proofs.Readings.{Given}
 use Rattle.core.specs.declared.Front.{Front}
 use Rattle.core.specs.Taking.{deskThrough}
 use Rattle.core.proofs.Signs.{through-minute, followed-late}
-use Rattle.planner.specs.declared.Columns.{Columns}
+use Rattle.rows.specs.declared.Columns.{Columns}
 use Rattle.planner.specs.declared.Listed.the-variants as listed
 use Rattle.planner.specs.declared.Ordered.{Ordered}
 use Rattle.planner.specs.declared.Ordered.the-variants as ordered
@@ -34,7 +34,8 @@ use Rattle.planner.specs.declared.Judged.{Judged}
 use Rattle.planner.specs.declared.Judged.the-variants as judged
 use Rattle.planner.specs.Posting.{postingTests}
 use Rattle.planner.specs.Calls.{Outcome, gives, written, planWords, nth, plansOf, orderOutcome, listCall, boundCall, planCall, judgedOf, verdictCall}
-use Rattle.planner.specs.Working.{jobsOf, Apart, Plannable, pairAt, held, Sized}
+use Rattle.rows.specs.Apart.{jobsOf, Apart}
+use Rattle.planner.specs.Working.{Plannable, pairAt, held, Sized}
 use Rattle.planner.proofs.CallLaws.{list-narrow, list-is, bound-is, plan-is, plan-unlisted, verdict-no, verdict-is}
 use Rattle.planner.proofs.Held.{held-length, held-at, nth-in, nth-zero, nth-out}
 use Rattle.planner.proofs.Plannings.{same-jobs, plannable, plans-rows}

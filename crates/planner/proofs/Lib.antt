@@ -2,7 +2,6 @@ pub mod Posting
 pub mod CallLaws
 pub mod Promise
 pub mod Memory
-pub mod Apart
 pub mod Held
 pub mod Words
 pub mod Verdicts

@@ -27,10 +27,11 @@ use Rattle.core.specs.declared.Planned.{Planned}
 use Rattle.core.specs.declared.Planned.the-variants.{Kept, Unkept}
 use Rattle.core.specs.Answers.{plannedOf, writtenOf, Listed}
 use Rattle.core.specs.Answers.{Ordered as CoreOrdered}
-use Rattle.planner.specs.declared.Columns.{Columns}
+use Rattle.rows.specs.declared.Columns.{Columns}
+use Rattle.rows.specs.Apart.{jobsOf, Apart}
 use Rattle.planner.specs.declared.Ordered.the-variants as ordered
 use Rattle.planner.specs.Calls.{gives, written, plansOf, orderOf, orderOutcome}
-use Rattle.planner.specs.Working.{jobsOf, Apart, Plannable, pairsOf, held, Sized}
+use Rattle.planner.specs.Working.{Plannable, pairsOf, held, Sized}
 use Rattle.planner.proofs.CallLaws.{order-narrow, order-some, order-none}
 use Rattle.planner.proofs.Held.{pairs-back}
 

@@ -1,30 +1,18 @@
--- What the planner's working parts hold: the columns of a table, and the list that the core makes.
--- Rests on: the schedule, the core.
+-- What the planner's working parts hold: what planning asks of columns, and the list that the core makes.
+-- Rests on: the schedule, the core, the columns of rows.
 use Prim.Native.Nat.{ℕ, _≤_}
 use mathlib.Core.Path.{_≡_}
 use mathlib.Core.List.{List, [], _∷_}
 use mathlib.Core.Option.{Option, none, some}
 use lib.ListN.{length, take}
-use Rattle.schedule.specs.declared.Row.{Row}
-use Rattle.theory.specs.Jobs.{Job}
-use Rattle.schedule.specs.Rows.{job, countFrom}
+use Rattle.schedule.specs.Rows.{countFrom}
 use Rattle.schedule.specs.Desk.{Pair}
 use Rattle.schedule.specs.Promise.{Agreeing}
 use Rattle.schedule.specs.Offset.{lowered}
 use Rattle.core.specs.declared.Front.{Front}
-use Rattle.core.specs.Columns.{columns, Limits}
-use Rattle.planner.specs.declared.Columns.{Columns}
-
--- What planning sees of each row number, in columns.
-abbrev pub jobsOf : Columns → ℕ → Job
-jobsOf c = columns (c .release) (c .length) (c .due)
-
--- The columns hold the rows: each row number has the job of its row.
-pub record Apart (rows : List Row) (c : Columns) : Type 0 where
-  pub jobs : (i : ℕ) → jobsOf c i ≡ job rows i
-  pub releases : length (c .release) ≡ 257
-  pub lengths : length (c .length) ≡ 257
-  pub dues : length (c .due) ≡ 257
+use Rattle.core.specs.Columns.{Limits}
+use Rattle.rows.specs.declared.Columns.{Columns}
+use Rattle.rows.specs.Apart.{jobsOf}
 
 -- What the core asks of the columns, the count of rows and the free minute.
 pub record Plannable (c : Columns) (n free : ℕ) : Type 0 where

@@ -10,16 +10,16 @@ ghost use Rattle.schedule.specs.declared.Row.{Row};
 ghost use Rattle.schedule.specs.Rows.{countFrom};
 ghost use Rattle.schedule.specs.Plans.{beats, plans, firstBeating};
 ghost use Rattle.schedule.specs.Offset.{lowered, deskAt};
-ghost use Rattle.book.specs.Book.{tableRows};
 ghost use Rattle.core.specs.Columns.{Limits};
 ghost use Rattle.core.specs.Taking.{deskThrough};
+ghost use Rattle.rows.specs.Apart.{jobsOf, Apart};
 ghost use Rattle.planner.specs.Posting.{entryTests, postingTests};
 ghost use Rattle.planner.specs.Calls.{gives, complement, planWords, written, judgedOf, orderOutcome, listCall, boundCall, planCall, verdictCall};
-ghost use Rattle.planner.specs.Working.{jobsOf, Apart, Plannable, pairAt, held, Sized, orZero};
-use book::Table;
+ghost use Rattle.planner.specs.Working.{Plannable, pairAt, held, Sized, orZero};
 use book::Tested;
 use core::Front;
 use core::Planned;
+use rows::Columns;
 use schedule::Desk;
 
 // The answer to the call for the list: the count of plans.
@@ -39,35 +39,6 @@ pub enum Judged {
     Unbeaten(u32, i32),
     Beaten(u32, i32, usize),
     Refused(u32, usize),
-}
-
-// The rows of a table taken apart: release, length and due of row i stand at place i, and place 0 is for no row.
-pub struct Columns {
-    pub release: [u32; 257],
-    pub length: [u32; 257],
-    pub due: [u32; 257],
-}
-
-// Once a call, so that picks read plain numbers.
-fn columns_of(table: Table) -> Columns
-    requires { ⌜ table .count ≤ 256 ⌝ }
-    ensures { λ r. ⌜ Apart (tableRows table) r ⌝ }
-{
-    let count = table.count;
-    let mut c = Columns {
-        release: [0; 257],
-        length: [0; 257],
-        due: [0; 257],
-    };
-    let mut i: usize = 0;
-    while i < count {
-        let row = table.rows[i];
-        i += 1;
-        c.release[i] = row.release;
-        c.length[i] = row.length;
-        c.due[i] = row.due;
-    }
-    c
 }
 
 // A raised lateness in two's complement of 32 bits.
@@ -250,7 +221,7 @@ pub fn list(book: &[u32], result: &mut [u32]) -> Listed
     if result.len() < 2 * n {
         return Listed::Refused(Tested::NARROW, 0);
     }
-    let front = plans_of(columns_of(table), n, table.free);
+    let front = plans_of(rows::columns_in(table), n, table.free);
     write_plans(front, result);
     Listed::Plans(front.count)
 }
@@ -266,7 +237,7 @@ pub fn order_for_bound(book: &[u32], bound: i32, result: &mut [u32]) -> Ordered
     }
     let table = reading.table;
     order_into(
-        columns_of(table),
+        rows::columns_in(table),
         table.count,
         table.free,
         schedule::raise(bound),
@@ -285,7 +256,7 @@ pub fn order_of_plan(book: &[u32], plan: u32, result: &mut [u32]) -> Ordered
     }
     let table = reading.table;
     let n = table.count;
-    let c = columns_of(table);
+    let c = rows::columns_in(table);
     let front = plans_of(c, n, table.free);
     let k = plan as usize;
     let count = front.count;
@@ -314,6 +285,6 @@ pub fn verdict(book: &[u32], posting: &[u32]) -> Judged
     if let Tested::Refused(number, place) = test {
         return Judged::Refused(number, place);
     }
-    let c = columns_of(table);
+    let c = rows::columns_in(table);
     judge(plans_of(c, n, table.free), posted(c, table.free, posting))
 }

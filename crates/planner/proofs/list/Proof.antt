@@ -40,17 +40,17 @@ mul-if1 c = record { fits = omega (arith, few c) }
 returns-2 : tie.Need-returns-2
 returns-2 c = let t = c .before in list-short (now (t .before .before .before .before .before .before .args .book)) _ (accepted t) (t .before .before .before .before .before .before .args .result .now) (c .if1 .taken)
 
-columns-of-requires : tie.Need-columns-of-requires
-columns-of-requires c κs = few (c .before)
+columns-in-requires : tie.Need-columns-in-requires
+columns-in-requires c κs = few (c .before)
 
 plans-of-requires : tie.Need-plans-of-requires
-plans-of-requires c κs = let t = c .before .before in may-plan (now (t .before .before .before .before .before .before .args .book)) _ (accepted t) (c .columns-of .result) (c .columns-of .ensures)
+plans-of-requires c κs = let t = c .before .before in may-plan (now (t .before .before .before .before .before .before .args .book)) _ (accepted t) (c .columns-in .result) (c .columns-in .ensures)
 
 write-plans-requires : tie.Need-write-plans-requires
 write-plans-requires c κs =
     let t = c .before .before .before .before in
     let p = c .before .plans-of in
-    let l = few-plans (now (t .before .before .before .before .before .before .args .book)) _ (accepted t) (c .before .before .columns-of .result) (c .before .before .columns-of .ensures) (p .result) (p .ensures .0) (p .ensures .1) in
+    let l = few-plans (now (t .before .before .before .before .before .before .args .book)) _ (accepted t) (c .before .before .columns-in .result) (c .before .before .columns-in .ensures) (p .result) (p .ensures .0) (p .ensures .1) in
     (p .ensures .0, omega (arith, l, c .before .before .before .if1 .left))
 
 same-length : tie.Need-same-length
@@ -61,7 +61,7 @@ returns-3 c =
     let t = c .before .before .before .before .before .before .before in
     let p = c .before .before .before .before .plans-of in
     let w = c .before .before .write-plans in
-    list-done (now (t .before .before .before .before .before .before .args .book)) _ (accepted t) (c .before .before .before .before .before .columns-of .result) (c .before .before .before .before .before .columns-of .ensures) (p .result) (p .ensures .0) (p .ensures .1)
+    list-done (now (t .before .before .before .before .before .before .args .book)) _ (accepted t) (c .before .before .before .before .before .columns-in .result) (c .before .before .before .before .before .columns-in .ensures) (p .result) (p .ensures .0) (p .ensures .1)
     (t .before .before .before .before .before .before .args .result .now) _ (c .before .before .before .before .before .before .if1 .left) (w .ensures)
 
 pub list-spec : {M : Type 1} → statement M
@@ -74,7 +74,7 @@ list-spec =
     enum-told
     mul-if1
     returns-2
-    columns-of-requires
+    columns-in-requires
     plans-of-requires
     write-plans-requires
     same-length

@@ -37,14 +37,14 @@ returns c =
 enum-told : tie.Need-enum-told
 enum-told c = search needs
 
-columns-of-requires : tie.Need-columns-of-requires
-columns-of-requires c κs = few c
+columns-in-requires : tie.Need-columns-in-requires
+columns-in-requires c κs = few c
 
 raise-requires : tie.Need-raise-requires
 raise-requires c κs = search needs
 
 order-into-requires : tie.Need-order-into-requires
-order-into-requires c κs = let t = c .before .before .before in may-plan (now (t .before .before .before .before .before .before .args .book)) _ (accepted t) (c .before .before .columns-of .result) (c .before .before .columns-of .ensures)
+order-into-requires c κs = let t = c .before .before .before in may-plan (now (t .before .before .before .before .before .before .args .book)) _ (accepted t) (c .before .before .columns-in .result) (c .before .before .columns-in .ensures)
 
 same-length : tie.Need-same-length
 same-length c = search needs
@@ -57,7 +57,7 @@ returns-2 c =
     let table = t .before .before .before .read .result .table in
     let y = bound-back (now (s .args .book)) table g (s .args .bound) (c .before .before .before .before .raise .result) (s .fits .bound) (c .before .before .before .before .raise .ensures) in
     bound-done (now (s .args .book)) table g (s .args .bound) (s .args .result .now) _
-    (c .before .before .order-into .ensures (tableRows table) (c .before .before .before .before .before .columns-of .ensures) (sym (g .size)) ∙
+    (c .before .before .order-into .ensures (tableRows table) (c .before .before .before .before .before .columns-in .ensures) (sym (g .size)) ∙
     ap (λ (z : ℤ). orderOutcome (tableRows table) (table .free) z (s .args .result .now)) y)
 
 pub order-for-bound-spec : {M : Type 1} → statement M
@@ -68,7 +68,7 @@ order-for-bound-spec =
     enum-known-outcome
     returns
     enum-told
-    columns-of-requires
+    columns-in-requires
     raise-requires
     order-into-requires
     same-length

@@ -35,23 +35,23 @@ returns c =
 enum-told : tie.Need-enum-told
 enum-told c = search needs
 
-columns-of-requires : tie.Need-columns-of-requires
-columns-of-requires c κs = few c
+columns-in-requires : tie.Need-columns-in-requires
+columns-in-requires c κs = few c
 
 plans-of-requires : tie.Need-plans-of-requires
-plans-of-requires c κs = let t = c .before in may-plan (now (t .before .before .before .before .before .before .args .book)) _ (accepted t) (c .columns-of .result) (c .columns-of .ensures)
+plans-of-requires c κs = let t = c .before in may-plan (now (t .before .before .before .before .before .before .args .book)) _ (accepted t) (c .columns-in .result) (c .columns-in .ensures)
 
 returns-2 : tie.Need-returns-2
 returns-2 c =
     let t = c .before .before .before in
     let p = c .before .plans-of in
-    plan-none (now (t .before .before .before .before .before .before .args .book)) _ (accepted t) (c .before .before .columns-of .result) (c .before .before .columns-of .ensures) (p .result) (p .ensures .0) (p .ensures .1) (t .before .before .before .before .before .before .args .plan) (c .if1 .taken) (t .before .before .before .before .before .before .args .result .now)
+    plan-none (now (t .before .before .before .before .before .before .args .book)) _ (accepted t) (c .before .before .columns-in .result) (c .before .before .columns-in .ensures) (p .result) (p .ensures .0) (p .ensures .1) (t .before .before .before .before .before .before .args .plan) (c .if1 .taken) (t .before .before .before .before .before .before .args .result .now)
 
 returns-3 : tie.Need-returns-3
 returns-3 c =
     let t = c .before .before .before .before in
     let p = c .before .before .plans-of in
-    plan-past (now (t .before .before .before .before .before .before .args .book)) _ (accepted t) (c .before .before .before .columns-of .result) (c .before .before .before .columns-of .ensures) (p .result) (p .ensures .0) (p .ensures .1) (t .before .before .before .before .before .before .args .plan) (c .if2 .taken) (t .before .before .before .before .before .before .args .result .now)
+    plan-past (now (t .before .before .before .before .before .before .args .book)) _ (accepted t) (c .before .before .before .columns-in .result) (c .before .before .before .columns-in .ensures) (p .result) (p .ensures .0) (p .ensures .1) (t .before .before .before .before .before .before .args .plan) (c .if2 .taken) (t .before .before .before .before .before .before .args .result .now)
 
 sub-order-into : tie.Need-sub-order-into
 sub-order-into c = search needs
@@ -63,7 +63,7 @@ array-read-order-into : tie.Need-array-read-order-into
 array-read-order-into c = let p = c .before .before .before .plans-of in omega (arith, p .ensures .0 .few, c .before .if2 .left)
 
 order-into-requires : tie.Need-order-into-requires
-order-into-requires c κs = let t = c .before .before .before .before .before .before in may-plan (now (t .before .before .before .before .before .before .args .book)) _ (accepted t) (c .before .before .before .before .before .columns-of .result) (c .before .before .before .before .before .columns-of .ensures)
+order-into-requires c κs = let t = c .before .before .before .before .before .before in may-plan (now (t .before .before .before .before .before .before .args .book)) _ (accepted t) (c .before .before .before .before .before .columns-in .result) (c .before .before .before .before .before .columns-in .ensures)
 
 same-length : tie.Need-same-length
 same-length c = search needs
@@ -73,8 +73,8 @@ returns-4 c =
     let t = c .before .before .before .before .before .before .before .before .before in
     let p = c .before .before .before .before .before .before .before .plans-of in
     let g = accepted t in
-    plan-done (now (t .before .before .before .before .before .before .args .book)) _ (accepted t) (c .before .before .before .before .before .before .before .before .columns-of .result) (c .before .before .before .before .before .before .before .before .columns-of .ensures) (p .result) (p .ensures .0) (p .ensures .1) (t .before .before .before .before .before .before .args .plan) (omega (arith, c .before .before .before .before .before .before .if1 .left)) (c .before .before .before .before .before .if2 .left) (t .before .before .before .before .before .before .args .result .now) _
-    (c .before .before .order-into .ensures (tableRows (t .before .before .before .read .result .table)) (c .before .before .before .before .before .before .before .before .columns-of .ensures) (sym (g .size)))
+    plan-done (now (t .before .before .before .before .before .before .args .book)) _ (accepted t) (c .before .before .before .before .before .before .before .before .columns-in .result) (c .before .before .before .before .before .before .before .before .columns-in .ensures) (p .result) (p .ensures .0) (p .ensures .1) (t .before .before .before .before .before .before .args .plan) (omega (arith, c .before .before .before .before .before .before .if1 .left)) (c .before .before .before .before .before .if2 .left) (t .before .before .before .before .before .before .args .result .now) _
+    (c .before .before .order-into .ensures (tableRows (t .before .before .before .read .result .table)) (c .before .before .before .before .before .before .before .before .columns-in .ensures) (sym (g .size)))
 
 pub order-of-plan-spec : {M : Type 1} → statement M
 order-of-plan-spec =
@@ -84,7 +84,7 @@ order-of-plan-spec =
     enum-known-outcome
     returns
     enum-told
-    columns-of-requires
+    columns-in-requires
     plans-of-requires
     returns-2
     returns-3

@@ -56,18 +56,18 @@ returns-2 c =
 enum-told-2 : tie.Need-enum-told-2
 enum-told-2 c = search needs
 
-columns-of-requires : tie.Need-columns-of-requires
-columns-of-requires c κs = few (c .before .before .before)
+columns-in-requires : tie.Need-columns-in-requires
+columns-in-requires c κs = few (c .before .before .before)
 
 plans-of-requires : tie.Need-plans-of-requires
-plans-of-requires c κs = let t = c .before .before .before .before in may-plan (now (t .before .before .before .before .before .before .args .book)) _ (accepted t) (c .columns-of .result) (c .columns-of .ensures)
+plans-of-requires c κs = let t = c .before .before .before .before in may-plan (now (t .before .before .before .before .before .before .args .book)) _ (accepted t) (c .columns-in .result) (c .columns-in .ensures)
 
 posted-requires : tie.Need-posted-requires
 posted-requires c κs =
     let t = c .before .before .before .before .before in
     let s = t .before .before .before .before .before .before in
     let g = accepted t in
-    let p = may-plan (now (s .args .book)) _ g (c .before .columns-of .result) (c .before .columns-of .ensures) in (
+    let p = may-plan (now (s .args .book)) _ g (c .before .columns-in .result) (c .before .columns-in .ensures) in (
       (p .limits, p .releases, p .lengths, p .dues),
       (
         p .early,
@@ -84,7 +84,7 @@ returns-3 c =
     let t = c .before .before .before .before .before .before .before in
     let s = t .before .before .before .before .before .before in
     let p = c .before .before .plans-of in
-    verdict-done (now (s .args .book)) _ (accepted t) (s .args .posting .now) (passed (c .before .before .before .before)) (c .before .before .before .columns-of .result) (c .before .before .before .columns-of .ensures) (p .result) (p .ensures .0) (p .ensures .1)
+    verdict-done (now (s .args .book)) _ (accepted t) (s .args .posting .now) (passed (c .before .before .before .before)) (c .before .before .before .columns-in .result) (c .before .before .before .columns-in .ensures) (p .result) (p .ensures .0) (p .ensures .1)
     (c .before .posted .result) (c .before .posted .ensures) (c .judge .result) (c .judge .ensures)
 
 pub verdict-spec : {M : Type 1} → statement M
@@ -99,7 +99,7 @@ verdict-spec =
     enum-known-test
     returns-2
     enum-told-2
-    columns-of-requires
+    columns-in-requires
     plans-of-requires
     posted-requires
     judge-requires
