@@ -1,0 +1,5 @@
+pub mod Words
+pub mod Bytes
+pub mod Naming
+pub mod Standing
+pub mod Choosing

@@ -1,0 +1,138 @@
+-- What is printed stands in the definition: the refusal, the counts, the line of each plan. And signed words.
+-- Assumes nothing.
+use Prim.Native.Nat.{ℕ, zero, suc, _+_, _-_, _*_, _/_, _%_, _≤_, _<_}
+use mathlib.Core.Bool.{Bool, true, false, cond, not, _&&_}
+use mathlib.Core.Path.{_≡_, refl, ap, sym, subst, _∙_}
+use mathlib.Core.List.{List, [], _∷_, _++_, append-nil, map}
+use mathlib.Core.Option.{Option, none, some}
+use native.Mathlib.Omega.{arith}
+use native.Mathlib.Decide.{decLt}
+use native.Mathlib.Numerals.{add-one}
+use mir.Syntax.{w32}
+use mir.Val.{toZ, ofZ}
+use mir.ValLaws.{toZ-ofZ}
+use Rattle.schedule.proofs.Words.{lowered-fits}
+use borrow.Author.Tests.{lt-ltb, le-ltb}
+use lib.Dec.{ltb, eqb}
+use lib.IntN.{ℤ, pos, negsuc}
+use lib.ListN.{length, take, drop, getD, length-append}
+use lib.Seq.{take-append-seam, drop-length}
+use Rattle.schedule.specs.declared.Row.{Row}
+use Rattle.schedule.specs.Rows.{row, allRows}
+use Rattle.schedule.specs.Desk.{Pair}
+use Rattle.schedule.specs.Offset.{lowered}
+use Rattle.schedule.proofs.Signed.{sub-cases}
+use Rattle.book.specs.declared.Table.{Table}
+use Rattle.book.specs.Rows.{Contents, refused, accepted}
+use Rattle.book.specs.Book.{readBook, tableRows}
+use Rattle.planner.specs.Calls.{nth, plansOf, orderOf}
+use Rattle.planner.specs.Lines.{Line, Printed, refusal, listing, numbersOf, lineOf, printed}
+use Rattle.planner.specs.Promise.{signed, plansIn}
+use Rattle.slate.specs.Input.{wordsIn}
+use Rattle.slate.specs.Printing.{odd, prints, Opens, lineAt}
+use Rattle.schedule.proofs.Numbers.{length-count}
+use Rattle.schedule.proofs.Orders.{perm-count}
+use Rattle.planner.specs.declared.Ordered.{Ordered}
+use Rattle.planner.specs.Calls.{Outcome, gives, written, boundCall, listCall}
+use Rattle.planner.proofs.CallLaws.{bound-is, order-some}
+use Rattle.planner.proofs.Promise.{calls-keep-promise}
+use Rattle.slate.specs.Parts.{Shown, Heard}
+use Rattle.slate.proofs.Naming.{Numbers}
+
+-- The number that a word in two's complement stands for.
+pub signed-below : (w : ℕ) → w < 2147483648 → lowered (w + 2147483648) ≡ signed w
+unfolding signed
+signed-below w h =
+    rw (lt-ltb w 2147483648 h)
+    (sub-cases (w + 2147483648) 2147483648 (λ z. z ≡ pos w) (λ k e. let z : ⊥ = omega arith in absurd z) (λ k e. ap pos (omega arith)))
+
+pub signed-above : (w : ℕ) → 2147483648 ≤ w → w < 4294967296 → lowered (w - 2147483648) ≡ signed w
+unfolding signed
+signed-above w h b =
+    rw (le-ltb w 2147483648 h)
+    (sub-cases (w - 2147483648) 2147483648 (λ z. z ≡ negsuc (4294967295 - w)) (λ k e. ap negsuc (omega arith)) (λ k e. let z : ⊥ = omega arith in absurd z))
+
+-- A signed word as the machine holds it.
+signed-lowered : (w : ℕ) → w < 4294967296 → (n : ℕ) × (n < 4294967296) × (lowered n ≡ signed w)
+signed-lowered w b = go (decLt w 2147483648)
+  where
+    go : Dec (w < 2147483648) → (n : ℕ) × (n < 4294967296) × (lowered n ≡ signed w)
+    go (yes h) = (w + 2147483648, omega arith, signed-below w h)
+    go (no h) = (w - 2147483648, omega arith, signed-above w (omega arith) b)
+
+pub signed-word : (w : ℕ) → w < 4294967296 → (z : ℤ) → z ≡ signed w → toZ w32 (ofZ w32 z) ≡ signed w
+signed-word w b z e =
+    let l = signed-lowered w b in
+    ap (λ (y : ℤ). toZ w32 (ofZ w32 y)) (e ∙ sym (l .2)) ∙ (toZ-ofZ w32 (lowered (l .0)) (record { sfits = lowered-fits (l .0) (l .1) }) ∙ l .2)
+
+-- Plan k of those that stand in a buffer.
+abbrev pub pairIn : List ℕ → ℕ → Pair
+pairIn ws k = record { end = getD ws (2 * k) 0; late = signed (getD ws (2 * k + 1) 0) }
+
+plan-in : (n k : ℕ) (ws : List ℕ) → k < n → 2 * n ≤ length ws → nth (plansIn n ws) (suc k) ≡ some (pairIn ws k)
+unfolding plansIn nth
+plan-in zero k ws h l = let z : ⊥ = omega arith in absurd z
+plan-in (suc n) k [] h l = let z : ⊥ = omega arith in absurd z
+plan-in (suc n) k (e ∷ []) h l = let z : ⊥ = omega arith in absurd z
+plan-in (suc n) zero (e ∷ w ∷ ws) h l = refl
+plan-in (suc n) (suc k) (e ∷ w ∷ ws) h l =
+    let a : 2 * suc k ≡ suc (suc (2 * k)) = omega arith in
+    let b : 2 * suc k + 1 ≡ suc (suc (2 * k + 1)) = omega arith in
+    rw (b, a) (plan-in n k ws (omega arith) (omega arith))
+
+nth-map : (f : Pair → Line) (ps : List Pair) (k : ℕ) (p : Pair) → nth ps k ≡ some p → nth (map f ps) k ≡ some (f p)
+unfolding nth
+nth-map f [] zero p e = let z : _≡_ {A = ℕ} 0 1 = cc in absurd (omega arith)
+nth-map f [] (suc k) p e = let z : _≡_ {A = ℕ} 0 1 = cc in absurd (omega arith)
+nth-map f (q ∷ ps) zero p e = let z : _≡_ {A = ℕ} 0 1 = cc in absurd (omega arith)
+nth-map f (q ∷ ps) (suc zero) p e = ap some (ap f (cc))
+nth-map f (q ∷ ps) (suc (suc k)) p e = nth-map f ps (suc k) p e
+
+written-whole : (order b : List ℕ) → length order ≡ length b → written order b ≡ order
+unfolding written
+written-whole order b e = rw (e, drop-length b) (append-nil order)
+
+module _ (input book : List ℕ) (t : Table) (count : ℕ) (plans : List ℕ) (h : Heard input book t count plans) (k : ℕ) (l : k < count) where
+  -- The plan stands in the list.
+  plan-at : nth (plansOf (tableRows t) (t .free)) (suc k) ≡ some (pairIn plans k)
+  plan-at = ap (λ (ps : List Pair). nth ps (suc k)) (sym (h .listed)) ∙ plan-in count k plans l (omega (arith, h .size, h .fits))
+
+  there : (order : List ℕ) × (orderOf (tableRows t) (t .free) (pairIn plans k .late) ≡ some order) × (length order ≡ t .count)
+  there =
+      let promise = calls-keep-promise book (t .free) (tableRows t) (h .read) in
+      let wide : 2 * length (tableRows t) ≤ length plans = omega (arith, h .size, h .few, h .rows) in
+      let got = promise .plan-order plans plans wide (omega (arith, h .size, h .few, h .rows)) (suc k) (pairIn plans k)
+      (ap (λ (ps : List Pair). nth ps (suc k)) (promise .listed plans wide .1) ∙ plan-at) in
+      (got .0, got .1, perm-count (got .2 .0) .0 ∙ (length-count 1 (length (tableRows t)) ∙ h .rows))
+
+  line-at : lineAt (prints input) (suc k) ≡ some (lineOf (tableRows t) (t .free) (pairIn plans k))
+  unfolding printed
+  line-at = rw (h .whole, printed, h .read) (nth-map (lineOf (tableRows t) (t .free)) (plansOf (tableRows t) (t .free)) (suc k) (pairIn plans k) plan-at)
+
+  -- The line of plan k + 1, from the order that the call for its bound writes, with the order numbers in the places of the rows.
+  pub line-stands : (numbers : List ℕ) → Numbers numbers (tableRows t) →
+      Shown input book numbers (t .count) (k + 1) (getD plans (2 * k) 0) (getD plans (2 * k + 1) 0)
+  unfolding lineOf numbersOf
+  line-stands numbers n b f =
+      let o = there in
+      let y = pairIn plans k .late in
+      let held : boundCall book y b .buffer ≡ o .0 =
+      ap (λ (x : Outcome Ordered). x .buffer)
+      (bound-is book (t .free) (tableRows t) (h .read) y b ∙ order-some (tableRows t) (t .free) y b (omega (arith, f, h .rows)) (o .0) (o .1)) ∙
+      written-whole (o .0) b (o .2 ∙ sym f) in
+      let named : map (λ i. row (tableRows t) i .number) (o .0) ≡ map (λ i. getD numbers i 0) (boundCall book y b .buffer) =
+      sym (ap (map (λ i. getD numbers i 0)) held ∙ ap (λ (g : ℕ → ℕ). map g (o .0)) (λ j i. n .1 i j)) in
+      ap (lineAt (prints input)) (add-one k) ∙ (line-at ∙
+      ap (λ (ns : List ℕ). some (record { end = getD plans (2 * k) 0; late = signed (getD plans (2 * k + 1) 0); numbers = ns }))
+      (ap (numbersOf (tableRows t)) (o .1) ∙ named))
+
+-- A buffer whose first n words were lent, and come back as others.
+module _ (n : ℕ) (shown rest : List ℕ) (e : length shown ≡ n) where
+  pub lent-front : take n (shown ++ rest) ≡ shown
+  lent-front = rw (← e) (take-append-seam shown rest)
+
+  pub lent-room : n ≤ length (shown ++ rest)
+  lent-room = omega (arith, length-append shown rest)
+
+  pub lent-count : n ≡ length (take n (shown ++ rest))
+  lent-count = sym (ap length lent-front ∙ e)
