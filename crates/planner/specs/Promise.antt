@@ -1,5 +1,5 @@
--- The three properties of the offered calls, for every book, bound, plan number, posting and buffer. Proved in proofs/Promise.antt as
--- `lent-memory`, `book-accepted` and `calls-keep-promise`.
+-- The three properties of the offered calls, for every book, bound, plan number, posting and buffer. Proved as `lent-memory` in
+-- proofs/Memory.antt, and as `book-accepted` and `calls-keep-promise` in proofs/Promise.antt.
 --
 -- The contract of each offered function says that its answer and its buffer at exit are those of its call in Calls (list, order_for_bound,
 -- order_of_plan, verdict) or in the book's specs (row_place, row_words), whatever it is lent and told. So what is said here of the calls holds
