@@ -1,0 +1,67 @@
+-- `kinds_at` is safe and ends: the count rises at each turn, up to its limit.
+-- Assumes nothing.
+use borrow.Author.Needs.{needs}
+use Prim.Native.Nat.{_≤_, _-_}
+use Rattle.days.proofs.tests.kinds_at.Statement.{statement}
+use Rattle.days.proofs.tests.kinds_at.Tie as tie
+
+abbrev Inv-loop : tie.InvT-loop
+Inv-loop base place w kind₀ kind = kind ≤ 8
+
+abbrev μ-loop : tie.MeasureT-loop
+μ-loop base place w kind₀ kind = 8 - kind
+
+slice-aggregate-after : tie.Need-slice-aggregate-after Inv-loop μ-loop
+slice-aggregate-after c = search needs
+
+after-requires : tie.Need-after-requires Inv-loop μ-loop
+after-requires c κs = search needs
+
+slice-aggregate-text : tie.Need-slice-aggregate-text Inv-loop μ-loop
+slice-aggregate-text c = search needs
+
+text-requires : tie.Need-text-requires Inv-loop μ-loop
+text-requires c κs = search needs
+
+loop-holds : tie.Need-loop-holds Inv-loop μ-loop
+loop-holds c = search needs
+
+with-kind-requires : tie.Need-with-kind-requires Inv-loop μ-loop
+with-kind-requires c κs = search needs
+
+with-requires : tie.Need-with-requires Inv-loop μ-loop
+with-requires c κs = search needs
+
+add-kind : tie.Need-add-kind Inv-loop μ-loop
+add-kind c = search needs
+
+loop-less : tie.Need-loop-less Inv-loop μ-loop
+loop-less c = search needs
+
+loop-again : tie.Need-loop-again Inv-loop μ-loop
+loop-again c = search needs
+
+line-requires : tie.Need-line-requires Inv-loop μ-loop
+line-requires c κs = search needs
+
+returns : tie.Need-returns Inv-loop μ-loop
+returns c = search needs
+
+pub kinds-at-spec : {M : Type 1} → statement M
+kinds-at-spec =
+    tie.close
+    (tie.spec
+    Inv-loop
+    μ-loop
+    slice-aggregate-after
+    after-requires
+    slice-aggregate-text
+    text-requires
+    loop-holds
+    with-kind-requires
+    with-requires
+    add-kind
+    loop-less
+    loop-again
+    line-requires
+    returns)

@@ -1,0 +1,56 @@
+-- `twice_count` meets its contract. The invariant: no more are counted than were passed. The measure is what is left of the words.
+-- Assumes nothing.
+use borrow.Author.Needs.{needs}
+use Prim.Native.Nat.{_≤_, _+_, _-_}
+use lib.ListN.{length}
+use Rattle.days.proofs.tests.twice_count.Statement.{statement}
+use Rattle.days.proofs.tests.twice_count.Tie as tie
+
+abbrev Inv-loop : tie.InvT-loop
+Inv-loop base count₀ place₀ count place = (6 ≤ place) × (count + 6 ≤ place) × (count ≤ length base)
+
+abbrev μ-loop : tie.MeasureT-loop
+μ-loop base count₀ place₀ count place = length base - place
+
+loop-holds : tie.Need-loop-holds Inv-loop μ-loop
+loop-holds c = search needs
+
+word-requires : tie.Need-word-requires Inv-loop μ-loop
+word-requires c κs = search needs
+
+is-refused-with-requires : tie.Need-is-refused-with-requires Inv-loop μ-loop
+is-refused-with-requires c κs = search needs
+
+one-if-requires : tie.Need-one-if-requires Inv-loop μ-loop
+one-if-requires c κs = search needs
+
+add-count : tie.Need-add-count Inv-loop μ-loop
+add-count c = search needs
+
+add-place : tie.Need-add-place Inv-loop μ-loop
+add-place c = search needs
+
+loop-less : tie.Need-loop-less Inv-loop μ-loop
+loop-less c = search needs
+
+loop-again : tie.Need-loop-again Inv-loop μ-loop
+loop-again c = search needs
+
+returns : tie.Need-returns Inv-loop μ-loop
+returns c = search needs
+
+pub twice-count-spec : {M : Type 1} → statement M
+twice-count-spec =
+    tie.close
+    (tie.spec
+    Inv-loop
+    μ-loop
+    loop-holds
+    word-requires
+    is-refused-with-requires
+    one-if-requires
+    add-count
+    add-place
+    loop-less
+    loop-again
+    returns)
