@@ -192,15 +192,15 @@ fn long_inputs() {
     });
 }
 
-/// The proved program itself, where it has been built, on some hundred inputs.
+/// The proved program itself on some hundred inputs.
 #[test]
 fn the_program() {
     let test = "slate";
     let program = concat!(env!("CARGO_MANIFEST_DIR"), "/../target/bin/slate");
-    if !std::path::Path::new(program).exists() {
-        println!("{test}: target/bin/slate is not built, so it is not compared");
-        return;
-    }
+    assert!(
+        std::path::Path::new(program).exists(),
+        "target/bin/slate is missing: run 'rt check slate' first"
+    );
     let count = 400 * books::times();
     for i in 0..count {
         let case = Case::new(test, i);
