@@ -19,12 +19,21 @@
  *     4     release of the row         0 to 10,000,000
  *     5     pages of the row           1 to 2,000
  *     6     due of the row             0 to 20,000,000
+ *     0     class of the row           0 to 7, in place of its due
  *     7     end                        the count of rows
  *
- * in the sequence 1, 2, then 1 to 256 rows of 3, 4, 5, 6, then 7, and nothing
- * after it. Times are whole minutes. A row's length is pages * 60 / pace,
- * rounded up; its spare is due - release - length. From each row to the next
- * the due may not fall and the spare may not rise.
+ * in the sequence 1, 2, then 1 to 256 rows of 3, 4, 5 and either 6 or 0, then
+ * 7, and nothing after it. Times are whole minutes. A row's length is
+ * pages * 60 / pace, rounded up. A row with a class word is due at release +
+ * length + margin, with the margin of its class:
+ *
+ *     class    0    1    2      3      4       5       6       7
+ *     margin  60  120  480  1,440  4,320  10,080  20,160  43,200
+ *
+ * A row's spare is due - release - length; where it has a class that is the
+ * margin. From each row to the next the due may not fall and the spare may not
+ * rise, whether the rows have due words or class words. So rows of one class
+ * may follow each other where release + length does not fall.
  *
  * Word places count from 0. Rows, plans and the row numbers in an order or a
  * posting count from 1, in the sequence of the book; they are not the order
@@ -54,7 +63,7 @@
 #include <stddef.h>
 #include <stdint.h>
 
-#define JELVAKSNA_VERSION "1.0"
+#define JELVAKSNA_VERSION "1.1"
 
 /* The refusals, and the place that comes with each. */
 #define JELVAKSNA_CUT 1          /* the book stops where a word is due: its length */
@@ -75,7 +84,7 @@
 #define JELVAKSNA_MAX_LIST_WORDS 512  /* words that any list fits in */
 #define JELVAKSNA_MAX_BOOK_WORDS 1027 /* words of the longest accepted book */
 
-/* The word of a kind with a value. */
+/* The word of a kind with a value; JELVAKSNA_WORD(0, 3) is class 3. */
 #define JELVAKSNA_WORD(kind, value) ((uint32_t)(kind) << 29 | (uint32_t)(value))
 
 #ifdef __cplusplus
@@ -125,7 +134,8 @@ jelvaksna_answer jelvaksna_verdict(const uint32_t *book, size_t book_len,
                                    const uint32_t *posting, size_t posting_len);
 
 /* Where a row stands, counted from 1. Answers `place`, the place of its number
- * word: the row's four words are book[place] to book[place + 3].
+ * word: the row's four words are book[place] to book[place + 3], the last of
+ * them its due word or its class word.
  * Refused: 1 to 8, UNLISTED with the count of rows. */
 jelvaksna_answer jelvaksna_row_place(const uint32_t *book, size_t book_len,
                                      uint32_t row);

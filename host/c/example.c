@@ -1,4 +1,5 @@
-/* A day of two transcripts: its plans, an order, a verdict and a row's words.
+/* A day of two transcripts: its plans, an order, a verdict and a row's words;
+ * then the same day with a class for each row in place of its due.
  *
  *     cc -std=c11 -Iinclude host/c/example.c target/staticlib/libjelvaksna.a
  */
@@ -6,6 +7,7 @@
 #include <inttypes.h>
 #include <stdio.h>
 #include <stdlib.h>
+#include <string.h>
 
 _Static_assert(offsetof(jelvaksna_answer, place) == 0, "layout");
 _Static_assert(offsetof(jelvaksna_answer, count) == 8, "layout");
@@ -81,6 +83,18 @@ int main(void) {
     putchar('\n');
     answer = jelvaksna_row_place(book, words, 3);
     EXPECT(answer.refusal == JELVAKSNA_UNLISTED && answer.place == 2);
+
+    /* The same rows in class 0, due at 62 and 70: an hour to spare each. */
+    uint32_t classes[sizeof book / sizeof *book];
+    memcpy(classes, book, sizeof book);
+    classes[5] = classes[9] = JELVAKSNA_WORD(0, 0);
+    answer = jelvaksna_order_for_bound(classes, words, -55, order, 2);
+    EXPECT(answer.refusal == 0 && answer.end == 12 && answer.late == -58 && order[0] == 1 && order[1] == 2);
+    printf("in class 0, at least 55 early: end %" PRIu32 ", late %" PRId32 ", rows", answer.end, answer.late);
+    print_order(order, 2);
+    classes[9] = JELVAKSNA_WORD(0, 8);
+    answer = jelvaksna_list(classes, words, list, JELVAKSNA_MAX_LIST_WORDS);
+    EXPECT(answer.refusal == JELVAKSNA_RANGE && answer.place == 9);
 
     /* A book that stops, and an empty one. */
     answer = jelvaksna_list(book, words - 1, list, JELVAKSNA_MAX_LIST_WORDS);

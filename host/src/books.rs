@@ -3,9 +3,10 @@
 //!
 //! A row is in agreement with the row above if release plus length does not fall and its due lies
 //! between the due above and the spare above plus its own release and length. The makers below
-//! choose within these limits, so that what they make is accepted by construction.
+//! choose within these limits, so that what they make is accepted by construction. A class row's
+//! spare is the margin of its class, so rows of one class agree if release plus length does not fall.
 
-use crate::model::{length, MAX_ROWS};
+use crate::model::{length, MARGINS, MAX_ROWS};
 use crate::word;
 
 /// The seed of a test run: `JELVAKSNA_SEED` (decimal, or hexadecimal after 0x), or a fixed one.
@@ -91,7 +92,10 @@ pub struct DraftRow {
     pub number: u32,
     pub release: i64,
     pub pages: i64,
+    /// Worked out where there is a class.
     pub due: i64,
+    /// Put into words in place of the due.
+    pub class: Option<u32>,
 }
 
 impl Draft {
@@ -102,6 +106,7 @@ impl Draft {
             release,
             pages,
             due,
+            class: None,
         });
         Draft {
             free,
@@ -117,10 +122,73 @@ impl Draft {
             book.push(word(3, row.number));
             book.push(word(4, row.release as u32));
             book.push(word(5, row.pages as u32));
-            book.push(word(6, row.due as u32));
+            book.push(match row.class {
+                Some(class) => word(0, class),
+                None => word(6, row.due as u32),
+            });
         }
         book.push(word(7, self.rows.len() as u32));
         book
+    }
+
+    /// The same day with all rows of one class. An accepted day is accepted so as well.
+    pub fn of_class(mut self, class: u32) -> Self {
+        let pace = self.pace;
+        for row in &mut self.rows {
+            row.due = row.release + length(row.pages, pace) + MARGINS[class as usize];
+            row.class = Some(class);
+        }
+        self
+    }
+
+    /// One accepted day in two as it is; the others with new dues that agree, most with class rows:
+    /// all of one class, or of falling classes and with due rows before, among and after them.
+    pub fn with_classes(mut self, rng: &mut Rng) -> Self {
+        match rng.below(6) {
+            0..=2 => return self,
+            3 => return self.of_class(rng.below(MARGINS.len()) as u32),
+            _ => {}
+        }
+        // Rows that could be of a class but have a due word instead.
+        let dues_in_100 = rng.pick(&[0, 20, 50, 80]);
+        let falls_one_in = rng.pick(&[2, 4, 10, 40]);
+        let mut spare = rng.pick(&MARGINS) + rng.pick(&[0, 0, 0, 1, 45, 3_000]);
+        for i in 0..self.rows.len() {
+            if i > 0 && rng.one_in(falls_one_in) {
+                spare = self.less_spare(rng, i, spare);
+            }
+            let reach = self.rows[i].release + self.length(&self.rows[i]);
+            let row = &mut self.rows[i];
+            row.due = reach + spare;
+            let class = MARGINS.iter().position(|&margin| margin == spare);
+            if class.is_some() && rng.range(1, 100) > dues_in_100 {
+                row.class = class.map(|class| class as u32);
+            }
+        }
+        self
+    }
+
+    /// A smaller spare for a row and those after it, such that the due does not fall: the margin of
+    /// a lower class, for which these rows may have to be released later, or any that agrees.
+    fn less_spare(&mut self, rng: &mut Rng, row: usize, spare: i64) -> i64 {
+        let (above, below) = (self.rows[row - 1], self.rows[row]);
+        let room = below.release + self.length(&below) - above.release - self.length(&above);
+        if rng.one_in(4) {
+            return spare - rng.range(0, room.min(100));
+        }
+        let lower = MARGINS.iter().rev().find(|&&margin| margin < spare);
+        let Some(&margin) = lower else {
+            return spare;
+        };
+        let later = (spare - margin - room).max(0);
+        let fits = |row: &DraftRow| row.release + later <= LAST_RELEASE;
+        if !self.rows[row..].iter().all(fits) {
+            return spare;
+        }
+        for row in &mut self.rows[row..] {
+            row.release += later;
+        }
+        margin
     }
 
     fn length(&self, row: &DraftRow) -> i64 {
@@ -140,6 +208,7 @@ impl Draft {
             release,
             pages,
             due: 0,
+            class: None,
         };
         row.release = row.release.max(reach - self.length(&row));
         if row.release > LAST_RELEASE {
@@ -178,15 +247,16 @@ const LAST_RELEASE: i64 = 10_000_000;
 const LAST_DUE: i64 = 20_000_000;
 
 /// A day of so many rows, of a shape chosen at random: crowded or idle, early or late, with ties,
-/// with rows of one length or of many, at the limits or far from them.
+/// with rows of one length or of many, at the limits or far from them, with class rows or without.
 pub fn accepted(rng: &mut Rng, rows: usize) -> Draft {
-    match rng.below(8) {
+    let day = match rng.below(8) {
         0 => several_plans(rng, rows),
         1 | 2 => contests(rng, rows),
         3 => typical_day(rng, rows),
         4 => limits(rng, rows),
         _ => mixed(rng, rows),
-    }
+    };
+    day.with_classes(rng)
 }
 
 /// Number of rows of a short, middling or long day.
@@ -225,6 +295,7 @@ fn mixed(rng: &mut Rng, rows: usize) -> Draft {
         release: first_release,
         pages: rng.range(1, most_pages),
         due: 0,
+        class: None,
     };
     let reach = first.release + day.length(&first);
     let spare = rng.pick(&[-20, -1, 0, 1, 3, 20, 300, 10_000]);
@@ -273,6 +344,7 @@ fn limits(rng: &mut Rng, rows: usize) -> Draft {
         release: rng.pick(&[0, 0, LAST_RELEASE, LAST_RELEASE - 40_000]),
         pages: rng.pick(&[1, 2, 2_000]),
         due: rng.pick(&[0, 0, 1, 30_000, 1_000_000, LAST_DUE]),
+        class: None,
     };
     day.rows.push(first);
     while day.rows.len() < rows {
@@ -309,6 +381,7 @@ pub fn several_plans(rng: &mut Rng, rows: usize) -> Draft {
                 release,
                 pages: 1,
                 due,
+                class: None,
             });
         } else {
             day.add(release, 1, 100);
@@ -345,6 +418,7 @@ pub fn contests(rng: &mut Rng, rows: usize) -> Draft {
         release: reach - length(1, pace),
         pages: 1,
         due: (reach + spare).max(0),
+        class: None,
     });
     // Where the busy desk would be by now.
     let mut busy = start + length(1, pace);
@@ -397,6 +471,7 @@ pub fn many_plans(rows: usize) -> Draft {
             release,
             pages,
             due,
+            class: None,
         });
     };
     let mut minute = 0;
@@ -439,6 +514,7 @@ pub fn typical_day(rng: &mut Rng, rows: usize) -> Draft {
         release,
         pages,
         due: release + length(pages, pace) + 600,
+        class: None,
     });
     for &(release, pages) in &arrivals[1..] {
         let slack = if rng.one_in(20) { 50 } else { 100 };
@@ -451,7 +527,8 @@ pub fn typical_day(rng: &mut Rng, rows: usize) -> Draft {
 // ---- Damage ----
 
 /// The kinds and limits of the words, by kind.
-const RANGES: [(u32, u32, u32); 5] = [
+const RANGES: [(u32, u32, u32); 6] = [
+    (0, 0, 7),
     (1, 0, 10_000_000),
     (2, 4, 120),
     (4, 0, 10_000_000),
@@ -471,8 +548,8 @@ pub fn damaged(rng: &mut Rng, book: &[u32]) -> Vec<u32> {
     book
 }
 
-/// The number of ways of [`damage`]: those of the refusals 1 to 8, and seven more.
-pub const WAYS: usize = 15;
+/// The number of ways of [`damage`]: those of the refusals 1 to 8, and nine more.
+pub const WAYS: usize = 17;
 
 /// Damages a book: `way` 1 to 8 aims at the refusal of that number.
 pub fn damage(rng: &mut Rng, book: &mut Vec<u32>, way: u32) {
@@ -591,6 +668,16 @@ pub fn damage(rng: &mut Rng, book: &mut Vec<u32>, way: u32) {
             let limit = rng.pick(&[2, 20, 2_100, TOP]);
             book[at] = word(book[at] >> 29, rng.next() as u32 % limit);
         }
+        15 => {
+            // A class word in place of a row's last word, within the range or not.
+            let class = rng.pick(&[0, 1, 2, 3, 4, 5, 6, 7, 7, 8, 9, 256, TOP]);
+            book[5 + 4 * rng.below(rows)] = word(0, class);
+        }
+        16 => {
+            // A class word anywhere, and more often than elsewhere in place of the end word.
+            let at = if rng.one_in(4) { len - 1 } else { at };
+            book[at] = word(0, rng.pick(&[0, 1, 7, 8, book[at] & TOP]));
+        }
         _ => book[at] = rng.next() as u32,
     }
 }
@@ -608,6 +695,7 @@ pub fn random_words(rng: &mut Rng, most: usize) -> Vec<u32> {
                 (true, 0) => word(1, any % limit),
                 (true, 1) => word(2, 4 + any % limit.min(130)),
                 (true, i) if i + 1 == len && rng.one_in(2) => word(7, (i as u32 - 2) / 4),
+                (true, i) if i % 4 == 1 && rng.one_in(2) => word(0, any % limit.min(9)),
                 (true, i) => word(3 + (i as u32 - 2) % 4, 1 + any % limit),
             }
         })

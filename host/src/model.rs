@@ -1,6 +1,7 @@
-//! A second opinion: document 01 as a plain program, written from the paper and from nothing else.
+//! A second opinion: document 01 with the classes of request L1 as a plain program, written from
+//! these papers and from nothing else.
 //!
-//! It keeps the paper's sequence of tests and its words (desk, picks, run, blocks), calculates in
+//! It keeps their sequence of tests and their words (desk, picks, run, blocks), calculates in
 //! 64 bits, and looks for nothing faster than plain scans.
 
 use crate::refusal::*;
@@ -11,7 +12,11 @@ use std::fmt::Write;
 pub const MAX_ROWS: usize = 256;
 /// `slate` looks at no more words than these.
 pub const SLATE_WORDS: usize = 1028;
+/// The minutes that each class, from 0, leaves a row beyond its release and length.
+pub const MARGINS: [i64; 8] = [60, 120, 480, 1_440, 4_320, 10_080, 20_160, 43_200];
 
+/// In place of a due word only.
+const KIND_CLASS: u32 = 0;
 const KIND_FREE: u32 = 1;
 const KIND_PACE: u32 = 2;
 const KIND_NUMBER: u32 = 3;
@@ -26,7 +31,9 @@ pub struct Row {
     pub number: u32,
     pub release: i64,
     pub length: i64,
+    /// As written, or worked out from the class.
     pub due: i64,
+    pub class: Option<u32>,
 }
 
 impl Row {
@@ -101,12 +108,22 @@ impl Day {
             }
             let release = due_word(book, place + 1, KIND_RELEASE, 0, 10_000_000)?;
             let pages = due_word(book, place + 2, KIND_PAGES, 1, 2_000)?;
-            let due = due_word(book, place + 3, KIND_DUE, 0, 20_000_000)?;
+            let length = length(pages, pace);
+            let last_kind = book.get(place + 3).map(|&word| kind(word));
+            let (due, class) = if last_kind == Some(KIND_CLASS) {
+                let class = due_word(book, place + 3, KIND_CLASS, 0, 7)?;
+                let margin = MARGINS[class as usize];
+                (release + length + margin, Some(class as u32))
+            } else {
+                let due = due_word(book, place + 3, KIND_DUE, 0, 20_000_000)?;
+                (due, None)
+            };
             rows.push(Row {
                 number,
                 release,
-                length: length(pages, pace),
+                length,
                 due,
+                class,
             });
             place += 4;
         }
@@ -124,6 +141,11 @@ impl Day {
             rows,
             listed: OnceCell::new(),
         })
+    }
+
+    /// Whether any row has a class.
+    pub fn has_classes(&self) -> bool {
+        self.rows.iter().any(|row| row.class.is_some())
     }
 }
 

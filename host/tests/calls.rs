@@ -10,14 +10,15 @@ use jelvaksna::books::{self, Draft, Rng};
 use jelvaksna::model::{Day, MAX_ROWS};
 use jelvaksna::{linked, word, Pair, Refusal};
 
-/// Makes books and compares all the calls that suit them.
+/// Makes books and compares all the calls that suit them. A good part of the accepted ones, if they
+/// are more than a few, has class rows.
 fn books(
     test: &'static str,
     count: u64,
     effort: Effort,
     mut make: impl FnMut(&mut Rng, u64) -> Vec<u32>,
 ) {
-    let (mut made, mut accepted, mut plans) = (0, 0, 0);
+    let (mut made, mut accepted, mut classed, mut plans) = (0, 0, 0, 0);
     for i in 0..count {
         let case = Case::new(test, i);
         let mut rng = case.rng();
@@ -29,11 +30,13 @@ fn books(
         }
         if let Ok(day) = &day {
             accepted += 1;
+            classed += usize::from(day.has_classes());
             plans = plans.max(day.list().len());
         }
     }
     let seed = books::seed();
-    println!("{test}: seed {seed:#x}, {count} books, {accepted} accepted, at most {plans} plans, {made} calls");
+    println!("{test}: seed {seed:#x}, {count} books, {accepted} accepted, {classed} with class rows, at most {plans} plans, {made} calls");
+    assert!(accepted < 20 || classed > accepted / 6, "{test}");
 }
 
 #[test]
@@ -63,7 +66,7 @@ fn long_books() {
             _ => rng.range(49, MAX_ROWS as i64) as usize,
         };
         match i % 4 {
-            0 => books::typical_day(rng, rows),
+            0 => books::typical_day(rng, rows).with_classes(rng),
             1 => books::contests(rng, rows),
             _ => books::accepted(rng, rows),
         }
@@ -73,12 +76,17 @@ fn long_books() {
 
 #[test]
 fn books_with_a_plan_for_each_row() {
-    books("many plans", 24, Effort::All, |_, i| {
-        books::many_plans(i as usize + 2).words()
+    // Each day as it is, then in a class.
+    let day = |rows: usize, i: u64| match i % 2 {
+        0 => books::many_plans(rows),
+        _ => books::many_plans(rows).of_class(i as u32 / 2 % 8),
+    };
+    books("many plans", 48, Effort::All, |_, i| {
+        day(i as usize / 2 + 2, i).words()
     });
     let long = [64, 100, MAX_ROWS];
-    books("very many plans", 3, Effort::Few, |_, i| {
-        books::many_plans(long[i as usize]).words()
+    books("very many plans", 6, Effort::Few, |_, i| {
+        day(long[i as usize / 2], i).words()
     });
 }
 
@@ -101,7 +109,7 @@ fn damaged_long_books() {
         } else {
             1 + rng.below(MAX_ROWS)
         };
-        let book = books::typical_day(rng, rows).words();
+        let book = books::typical_day(rng, rows).with_classes(rng).words();
         books::damaged(rng, &book)
     });
 }
@@ -115,15 +123,20 @@ fn random_words() {
     });
 }
 
-/// Every word of a small book, and the word after row 256, with every kind and telling values; every
-/// cut of a full book.
+/// Every word of small books, and the word after row 256, with every kind and telling values; every
+/// cut of full books.
 #[test]
 fn every_place() {
     let test = "every place";
     let rows = [(901, 1, 1, 5), (902, 0, 10, 12), (903, 20, 5, 27)];
-    let sound = Draft::of(0, 60, &rows).words();
+    let dues = Draft::of(0, 60, &rows);
+    let classes = dues.clone().of_class(1);
+    // A class row between due rows.
+    let rows = [(901, 1, 1, 130), (902, 0, 10, 130), (903, 20, 5, 140)];
+    let mut between = Draft::of(0, 60, &rows);
+    between.rows[1].class = Some(1);
     let mut values = vec![
-        0, 1, 2, 3, 4, 5, 12, 119, 120, 121, 901, 902, 1_999, 2_000, 2_001,
+        0, 1, 2, 3, 4, 5, 6, 7, 8, 9, 12, 119, 120, 121, 901, 902, 1_999, 2_000, 2_001,
     ];
     values.extend([
         10_000_000,
@@ -141,21 +154,28 @@ fn every_place() {
         }
         made += 1;
     };
-    for at in 0..sound.len() {
-        for kind in 0..8 {
-            for &value in &values {
-                let mut book = sound.clone();
-                book[at] = word(kind, value);
-                check(&book);
-                book.push(book[at]);
-                check(&book);
+    for day in [dues, classes, between] {
+        let sound = day.words();
+        assert!(Day::read(&sound).is_ok());
+        for at in 0..sound.len() {
+            for kind in 0..8 {
+                for &value in &values {
+                    let mut book = sound.clone();
+                    book[at] = word(kind, value);
+                    check(&book);
+                    book.push(book[at]);
+                    check(&book);
+                }
             }
         }
     }
-    let full = books::typical_day(&mut Rng::new(1), MAX_ROWS).words();
-    for len in 0..=full.len() {
-        check(&full[..len]);
+    let full = books::typical_day(&mut Rng::new(1), MAX_ROWS);
+    for full in [full.clone().of_class(3).words(), full.words()] {
+        for len in 0..=full.len() {
+            check(&full[..len]);
+        }
     }
+    let full = full.words();
     // After row 256: every kind, with numbers that stand in the book and numbers that do not.
     let at = full.len() - 1;
     values.extend([
@@ -177,6 +197,53 @@ fn every_place() {
     println!("{test}: {made} books");
 }
 
+/// Every class, at the limits of pace, release and pages: a row's due shows in its lateness, and in
+/// the dues that a row after it may have.
+#[test]
+fn every_class() {
+    let test = "every class";
+    let mut made = 0;
+    for class in 0..8 {
+        for (pace, release, pages) in [
+            (60, 0, 1),
+            (40, 100, 7),
+            (120, 10_000_000, 1),
+            (4, 10_000_000, 2_000),
+        ] {
+            let one = Draft::of(0, pace, &[(901, release, pages, 0)]).of_class(class);
+            let due = one.rows[0].due;
+            let mut days = vec![one.clone()];
+            // The same row once more, due or class, above and below it.
+            for other in [due - 1, due, due + 1] {
+                let rows = [(901, release, pages, due), (902, release, pages, other)];
+                let mut day = Draft::of(0, pace, &rows);
+                day.rows[0].class = Some(class);
+                days.push(day.clone());
+                day.rows.swap(0, 1);
+                days.push(day);
+            }
+            for other in 0..8 {
+                let rows = [(901, release, pages, due), (902, release, pages, 0)];
+                let mut day = Draft::of(0, pace, &rows).of_class(class);
+                day.rows[1].class = Some(other);
+                days.push(day);
+            }
+            for day in days {
+                let case = Case::new(test, made);
+                let book = day.words();
+                let day = Day::read(&book);
+                for call in calls(&mut case.rng(), &day, Effort::All) {
+                    compare(case, &book, &day, &call);
+                }
+                made += 1;
+            }
+            let plans = linked::plans(&one.words()).unwrap();
+            assert_eq!(plans[0].late as i64, plans[0].end as i64 - due);
+        }
+    }
+    println!("{test}: {made} books");
+}
+
 /// Every row, every plan and every bound near a lateness, on a few days.
 #[test]
 fn every_number() {
@@ -185,7 +252,9 @@ fn every_number() {
         let case = Case::new(test, i);
         let mut rng = case.rng();
         let rows = 1 + rng.below(30);
-        let book = books::several_plans(&mut rng, rows).words();
+        let book = books::several_plans(&mut rng, rows)
+            .with_classes(&mut rng)
+            .words();
         let day = Day::read(&book);
         let read = day.as_ref().expect("accepted");
         let (rows, plans) = (read.rows.len(), read.list().to_vec());
@@ -223,6 +292,8 @@ fn worked_days() {
         Draft::of(0, 50, &[(1, 0, 1, 2)]),
         Draft::of(0, 60, &four),
         Draft::of(0, 60, &[]),
+        Draft::of(0, 60, &two).of_class(0),
+        Draft::of(0, 60, &four).of_class(7),
     ];
     for (i, draft) in days.iter().enumerate() {
         let case = Case::new("worked days", i as u64);
@@ -278,6 +349,10 @@ fn the_wrapper() {
     assert_eq!(linked::verdict(&book, &[1, 2]), Ok((pair(12, 0), None)));
     let words = linked::row_words(&book, 2).unwrap();
     assert!(std::ptr::eq(words, &book[6..10]));
+    let classes = Draft::of(0, 60, &rows).of_class(0).words();
+    let plans = linked::plans(&classes).unwrap();
+    assert_eq!(plans, [pair(11, -51), pair(12, -58)]);
+    assert_eq!(linked::row_words(&classes, 2).unwrap()[3], word(0, 0));
     let unlisted = Refusal {
         number: jelvaksna::refusal::UNLISTED,
         place: 2,

@@ -170,6 +170,23 @@ fn constants() {
     assert!(env!("CARGO_PKG_VERSION").starts_with(&format!("{VERSION}.")));
 }
 
+/// The table of classes in the header's text has the margins that the model has.
+#[test]
+fn margins() {
+    let header = file("include/jelvaksna.h");
+    let entries = |name: &str| -> Vec<i64> {
+        let line = header.lines().find_map(|line| {
+            let rest = line.strip_prefix(" *     ")?;
+            rest.strip_prefix(name)?.strip_prefix(' ')
+        });
+        let line = line.unwrap_or_else(|| panic!("the header lacks the line {name}"));
+        let numbers = line.split_whitespace().map(|n| n.replace(',', ""));
+        numbers.map(|n| n.parse().expect("a number")).collect()
+    };
+    assert_eq!(entries("class"), [0, 1, 2, 3, 4, 5, 6, 7]);
+    assert_eq!(entries("margin"), jelvaksna::model::MARGINS);
+}
+
 /// What a tool of the binutils prints about the archive.
 fn told_by(tool: &str, arguments: &[&str]) -> String {
     let archive = concat!(

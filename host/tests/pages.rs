@@ -49,7 +49,7 @@ fn long_books() {
             0 => MAX_ROWS,
             _ => 100 + rng.below(157),
         };
-        let book = books::typical_day(rng, rows).words();
+        let book = books::typical_day(rng, rows).with_classes(rng).words();
         match i % 3 {
             0 => books::damaged(rng, &book),
             _ => book,
@@ -60,8 +60,11 @@ fn long_books() {
 /// Every prefix of a book, as long as the buffer that holds it.
 #[test]
 fn every_cut() {
-    let book = books::several_plans(&mut Rng::new(3), 12).words();
-    fenced("cuts", book.len() as u64 + 1, Effort::All, |_, i| {
-        book[..i as usize].to_vec()
-    });
+    let day = books::several_plans(&mut Rng::new(3), 12);
+    for (test, day) in [("cuts", day.clone()), ("cuts in a class", day.of_class(2))] {
+        let book = day.words();
+        fenced(test, book.len() as u64 + 1, Effort::All, |_, i| {
+            book[..i as usize].to_vec()
+        });
+    }
 }

@@ -22,7 +22,7 @@ use Rattle.book.specs.Book.{readBook}
 use Rattle.book.specs.Accepted.{AcceptedBook}
 use Rattle.book.proofs.Signed.{ltZ-sums}
 use Rattle.book.proofs.Tests.{or-left, or-right, then-left, then-right, not-refused}
-use Rattle.book.proofs.Whole.{RowRanged, AllRanged, whole}
+use Rattle.book.proofs.Whole.{RowRanged, AllRanged, whole, ordered}
 
 -- From row r to a row s further down due does not fall and spare does not rise.
 record Follows (r s : Row) : Type 0 where
@@ -57,10 +57,10 @@ follows place (r ∷ s ∷ rs) e (suc i) (suc j) h l =
 
 module _ (rows : List Row) where
   -- Rows by their numbers.
-  ordered : orderTests 2 rows ≡ Passed → (i j : ℕ) → 1 ≤ i → i ≤ j → j < 1 + length rows → Follows (row rows i) (row rows j)
-  ordered e zero j l h n = let x : ⊥ = omega arith in absurd x
-  ordered e (suc i) zero l h n = let x : ⊥ = omega arith in absurd x
-  ordered e (suc i) (suc j) l h n = follows 2 rows e i j (omega arith) (omega arith)
+  by-numbers : orderTests 2 rows ≡ Passed → (i j : ℕ) → 1 ≤ i → i ≤ j → j < 1 + length rows → Follows (row rows i) (row rows j)
+  by-numbers e zero j l h n = let x : ⊥ = omega arith in absurd x
+  by-numbers e (suc i) zero l h n = let x : ⊥ = omega arith in absurd x
+  by-numbers e (suc i) (suc j) l h n = follows 2 rows e i j (omega arith) (omega arith)
 
   by-number : AllRanged rows → (i : ℕ) → 1 ≤ i → i < 1 + length rows → RowRanged (row rows i)
   by-number r zero l h = let x : ⊥ = omega arith in absurd x
@@ -71,10 +71,10 @@ module _ (rows : List Row) where
   agreeing e i j m n l = go (decLe i j)
     where
       go : Dec (i ≤ j) → row rows i .release + row rows i .length + row rows j .due ≤ row rows j .release + row rows j .length + row rows i .due
-      go (yes h) = ordered e i j (count-range 1 (length rows) m .0) h (count-range 1 (length rows) n .1) .spare
+      go (yes h) = by-numbers e i j (count-range 1 (length rows) m .0) h (count-range 1 (length rows) n .1) .spare
       go (no h) =
           let g : j ≤ i = omega arith in
-          let d = ordered e j i (count-range 1 (length rows) n .0) g (count-range 1 (length rows) m .1) in
+          let d = by-numbers e j i (count-range 1 (length rows) n .0) g (count-range 1 (length rows) m .1) in
           let x : ⊥ = omega (arith, d .due) in
           absurd x
 
@@ -91,11 +91,12 @@ pub accepted-book : (ws : List ℕ) (free : ℕ) (rows : List Row) → readBook 
 accepted-book ws free rows e =
     let w = whole ws free rows e in
     record {
-      agree = agreeing rows (w .ordered);
+      agree = agreeing rows (ordered ws free rows e);
       early = omega (arith, w .free, w .head .free .most);
       some-row = w .some;
       few-rows = w .few;
       ranged = λ i m. let n = count-range 1 (length rows) m in let r = by-number rows (w .ranged) i (n .0) (n .1) in (r .release, r .least, r .most, r .due);
+      classes = λ i c m. let n = count-range 1 (length rows) m in by-number rows (w .ranged) i (n .0) (n .1) .class c;
       limits = limited rows (w .ranged);
     }
 

@@ -3,6 +3,7 @@
 use Prim.Native.Nat.{ℕ, zero, suc, _+_, _*_}
 use mathlib.Core.Path.{_≡_, refl}
 use mathlib.Core.List.{List, [], _∷_, _++_}
+use Rattle.schedule.specs.declared.Class.the-variants.{None}
 use Rattle.book.specs.Rows.{refused, accepted}
 use Rattle.book.specs.Book.{readBook, rowWords, openBook}
 
@@ -38,7 +39,7 @@ full = refl
 
 -- Two rows, and the words of the second.
 two-rows : readBook (w 1 0 ∷ w 2 60 ∷ r 901 1 1 5 ++ r 902 0 10 12 ++ (w 7 2 ∷ [])) ≡
-    accepted 0 (record { number = 901; release = 1; length = 1; due = 5 } ∷ record { number = 902; release = 0; length = 10; due = 12 } ∷ [])
+    accepted 0 (record { number = 901; release = 1; length = 1; due = 5; class = None } ∷ record { number = 902; release = 0; length = 10; due = 12; class = None } ∷ [])
 unfolding openBook w r
 two-rows = refl
 

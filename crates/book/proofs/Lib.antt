@@ -7,5 +7,6 @@ pub mod Whole
 pub mod Readings
 pub mod Places
 pub mod Accepted
+pub mod OneClass
 pub mod Numbered
 pub mod Examples

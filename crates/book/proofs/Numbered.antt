@@ -7,13 +7,16 @@ use mathlib.Core.Path.{_≡_, refl, subst}
 use mathlib.Core.List.{List, [], _∷_, _++_}
 use lib.ListN.{length, drop}
 use Rattle.schedule.specs.declared.Row.{Row}
+use Rattle.schedule.specs.declared.Class.{Class}
+use Rattle.schedule.specs.declared.Class.the-variants.{None, Of}
 use Rattle.book.specs.declared.Tested.{Tested}
 use Rattle.book.specs.declared.Tested.the-variants.{Passed, Refused}
 use Rattle.book.specs.Refusals.{refuseIf, _then_}
 use Rattle.book.specs.Words.{value, word, kindTests, wordTests}
+use Rattle.book.specs.Due.{classOf, testsBy}
 use Rattle.book.specs.Rows.{Contents, refused, accepted, refusedOr, numbersOf, numberTests, rowTests, rowOf, endStands, endTests, readRows}
 use Rattle.book.specs.Order.{orderTests}
-use Rattle.book.specs.Book.{headTests, inOrder, readBook}
+use Rattle.book.specs.Book.{headTests, inOrder, readWords, readBook}
 
 -- The number of a refusal, of tests and of what a book gives.
 abbrev InTable : ℕ → Type 0
@@ -54,11 +57,16 @@ unfolding numberTests
 numbers ns place ws =
     by-either _ _ (kinds 3 place ws 0) (by-either _ _ (by-test _ _ (omega arith, omega arith)) (by-test _ _ (omega arith, omega arith)))
 
+due : (k : Class) (place : ℕ) (ws : List ℕ) → Numbered (testsBy k place ws)
+unfolding testsBy
+due None place ws = words 6 0 20000000 place ws 3
+due (Of c) place ws = words 0 0 7 place ws 3
+
 row : (ns : List ℕ) (place : ℕ) (ws : List ℕ) → Numbered (rowTests ns place ws)
 unfolding rowTests
 row ns place ws =
     by-either _ _ (numbers ns place ws)
-    (by-either _ _ (words 4 0 10000000 place ws 1) (by-either _ _ (words 5 1 2000 place ws 2) (words 6 0 20000000 place ws 3)))
+    (by-either _ _ (words 4 0 10000000 place ws 1) (by-either _ _ (words 5 1 2000 place ws 2) (due (classOf ws) place ws)))
 
 ends : (count place : ℕ) (ws : List ℕ) → Numbered (endTests count place ws)
 unfolding endTests
@@ -89,7 +97,7 @@ ordered (refused n p) h = h
 ordered (accepted free rows) h = by-contents (orderTests 2 rows) (accepted free rows) (order 2 rows) tt
 
 pub book-numbered : (ws : List ℕ) (n p : ℕ) → readBook ws ≡ refused n p → (1 ≤ n) × (n ≤ 8)
-unfolding readBook headTests
+unfolding readBook readWords headTests
 book-numbered ws n p e =
-    subst NumberedBook e (by-contents (headTests ws) _ (by-either _ _ (words 1 0 10000000 0 ws 0) (words 2 4 120 0 ws 1))
-    (ordered _ (rows-read 257 (value (word ws 0)) (value (word ws 1)) [] 2 (drop 2 ws))))
+    subst NumberedBook e (ordered (readWords ws) (by-contents (headTests ws) _ (by-either _ _ (words 1 0 10000000 0 ws 0) (words 2 4 120 0 ws 1))
+    (rows-read 257 (value (word ws 0)) (value (word ws 1)) [] 2 (drop 2 ws))))

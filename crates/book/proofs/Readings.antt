@@ -13,7 +13,7 @@ use Rattle.book.specs.declared.Table.{Table}
 use Rattle.book.specs.declared.Reading.{Reading}
 use Rattle.book.specs.Rows.{Contents, refused, accepted, refusedOr, readRows}
 use Rattle.book.specs.Order.{orderTests}
-use Rattle.book.specs.Book.{headTests, inOrder, readBook, tableOf, tableRows, readingOf, settledOf}
+use Rattle.book.specs.Book.{headTests, inOrder, readWords, readBook, tableOf, tableRows, readingOf, settledOf}
 use Rattle.book.specs.Accepted.{AcceptedBook}
 use Rattle.book.proofs.Tests.{never}
 use Rattle.book.proofs.Tables.{row-at, table-rows, table-places}
@@ -23,11 +23,11 @@ use Rattle.book.proofs.Accepted.{accepted-book}
 -- The head: it is refused; it passed, and the rows and the order are left.
 pub head-refused : (ws : List ℕ) (o : Tested) (n p : ℕ) → o ≡ headTests ws → o ≡ Refused n p →
     _≡_ {A = Reading} (record { outcome = o; table = tableOf 0 [] }) (readingOf (readBook ws))
-unfolding readBook readingOf
+unfolding readBook readWords inOrder readingOf
 head-refused ws o n p e f = rw (← e, f)
 
 pub head-passed : (ws : List ℕ) (o : Tested) → o ≡ headTests ws → o ≡ Passed → readBook ws ≡ inOrder (bookRows ws)
-unfolding readBook
+unfolding readBook readWords
 head-passed ws o e f = rw (← e, f)
 
 -- The order of the rows: the rows are refused before it; or it is tested.

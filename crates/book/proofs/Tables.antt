@@ -9,6 +9,7 @@ use lib.ListN.{length, take, drop, set, getD, replicate, length-map, length-take
 use lib.Seq.{getD-take, take-suc-set, set-at, take-all, take-append-seam}
 use Rattle.schedule.specs.declared.Row.{Row}
 use Rattle.schedule.specs.Rows.{noRow}
+use Rattle.schedule.proofs.Row as T
 use Rattle.book.specs.declared.Tested.{Tested}
 use Rattle.book.specs.declared.Tested.the-variants.{Passed, Refused}
 use Rattle.book.specs.declared.Table.{Table}
@@ -16,11 +17,8 @@ use Rattle.book.specs.Rows.{accepted, refusedOr, numbersOf}
 use Rattle.book.specs.Book.{tableOf, tableRows, readingOf, settledOf}
 
 -- An array of 256 rows has 256 places. (Owning a table says it of the rows' fields: `c .good .0 .1 .1 .1 .1 .0 .1 .0 .1` of a first parameter.)
-abbrev parts : Row → ℕ × (ℕ × (ℕ × (ℕ × Unit {0})))
-parts d = (d .number, (d .release, (d .length, (d .due, tt {0}))))
-
-pub all-places : (l : List Row) → length (map parts l) ≡ 256 → length l ≡ 256
-all-places l e = sym (length-map l parts) ∙ e
+pub all-places : (l : List Row) → length (map (T.the-type .to) l) ≡ 256 → length l ≡ 256
+all-places l e = sym (length-map l (T.the-type .to)) ∙ e
 
 -- The rows of a table.
 pub rows-length : (t : Table) → t .count ≤ 256 → length (t .rows) ≡ 256 → length (tableRows t) ≡ t .count

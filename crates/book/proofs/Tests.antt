@@ -1,18 +1,21 @@
 -- What passed tests say of the words of a book.
 -- Assumes nothing.
-use Prim.Native.Nat.{ℕ, _+_, _≤_, _<_}
+use Prim.Native.Nat.{ℕ, zero, suc, _+_, _≤_, _<_}
 use native.Mathlib.Omega.{arith}
-use mathlib.Core.Bool.{Bool, true, false, _&&_, _||_}
+use mathlib.Core.Bool.{Bool, true, false, cond, _&&_, _||_}
 use mathlib.Core.Path.{_≡_, refl}
-use mathlib.Core.List.{List}
-use lib.Dec.{ltb}
-use lib.ListN.{length}
-use borrow.Author.Tests.{ltb-false, leb-false}
+use mathlib.Core.List.{List, [], _∷_}
+use lib.Dec.{leb, ltb, eqb}
+use lib.ListN.{length, getD}
+use borrow.Author.Tests.{ltb-false, leb-false, leb-true}
+use Rattle.schedule.specs.declared.Class.{Class}
+use Rattle.schedule.specs.declared.Class.the-variants.{None, Of}
 use Rattle.book.specs.declared.Tested.{Tested}
 use Rattle.book.specs.declared.Tested.the-variants.{Passed, Refused}
 use Rattle.book.specs.Refusals.{byRange, refuseIf, _then_}
-use Rattle.book.specs.Words.{value, word, outside, kindTests, wordTests}
-use Rattle.book.specs.Rows.{numberTests, dueTests, rowTests, dueOf}
+use Rattle.book.specs.Words.{kind, value, word, outside, kindTests, wordTests}
+use Rattle.book.specs.Due.{margins, margin, classOf, testsBy, dueTests, Margined, dueBy, dueOf}
+use Rattle.book.specs.Rows.{numberTests, rowTests}
 use Rattle.book.specs.Book.{headTests}
 
 -- Two constructors are never equal: `cc` then proves 0 ≡ 1, and all else follows.
@@ -74,13 +77,45 @@ word-fits k lo hi place ws i e =
       most = ltb-false hi v (or-right (ltb v lo) (ltb hi v) o);
     }
 
--- A due word that passed, and the due that it gives.
+-- The margins: no entry of a table is above m if the test of all of them says so.
+abbrev allAtMost : ℕ → List ℕ → Bool
+allAtMost m [] = true
+allAtMost m (x ∷ xs) = leb x m && allAtMost m xs
+
+entry-most : (m : ℕ) (xs : List ℕ) → allAtMost m xs ≡ true → (i : ℕ) → getD xs i 0 ≤ m
+entry-most m [] e i = omega arith
+entry-most m (x ∷ xs) e zero = leb-true x m (and-left (leb x m) (allAtMost m xs) e)
+entry-most m (x ∷ xs) e (suc i) = entry-most m xs (and-right (leb x m) (allAtMost m xs) e) i
+
+pub margin-most : (c : ℕ) → margin c ≤ 43200
+margin-most c = entry-most 43200 margins refl c
+
+-- A class is the value of its word.
+class-value : (ws : List ℕ) (c : ℕ) → classOf ws ≡ Of c → c ≡ value (word ws 3)
+unfolding classOf
+class-value ws c e = go (eqb (kind (word ws 3)) 0) e
+  where
+    go : (b : Bool) → cond b (Of (value (word ws 3))) None ≡ Of c → c ≡ value (word ws 3)
+    go true g = cc
+    go false g = never (cc)
+
+-- A due word or a class word that passed, and the due that it gives.
 pub record DueFit (ws : List ℕ) : Type 0 where
   pub there : 3 < length ws
-  pub most : dueOf ws ≤ 20000000
+  pub class : Margined (classOf ws)
+  pub most : (release length : ℕ) → release ≤ 10000000 → length ≤ 30000 → dueOf release length ws ≤ 20000000
 
 due-fits : (place : ℕ) (ws : List ℕ) → dueTests place ws ≡ Passed → DueFit ws
-due-fits place ws e = let w = word-fits 6 0 20000000 place ws 3 e in record { there = w .there; most = w .most }
+unfolding testsBy dueBy
+due-fits place ws e = let g = go (classOf ws) (class-value ws) e in record { there = g .0; class = g .1; most = g .2 }
+  where
+    go : (k : Class) → ((c : ℕ) → k ≡ Of c → c ≡ value (word ws 3)) → testsBy k place ws ≡ Passed →
+        (3 < length ws) × Margined k × ((release length : ℕ) → release ≤ 10000000 → length ≤ 30000 → dueBy k release length (value (word ws 3)) ≤ 20000000)
+    go None same f = let w = word-fits 6 0 20000000 place ws 3 f in (w .there, tt, λ release length r l. w .most)
+    go (Of c) same f =
+        let w = word-fits 0 0 7 place ws 3 f in
+        let v : c ≡ value (word ws 3) = same c refl in
+        (w .there, omega (arith, w .most), λ release length r l. omega (arith, margin-most c))
 
 -- The four words of a row that passed, after the numbers read so far.
 pub record Fit (numbers ws : List ℕ) : Type 0 where

@@ -11,14 +11,17 @@ use lib.ListN.{length, drop, getD, length-drop, length-append, List·getD-append
 use lib.Seq.{getD-at}
 use borrow.Author.Tests.{ltb-true, ltb-false}
 use Rattle.schedule.specs.declared.Row.{Row}
+use Rattle.schedule.specs.declared.Class.{Class}
+use Rattle.schedule.specs.declared.Class.the-variants.{None, Of}
 use Rattle.schedule.specs.Rows.{noRow}
 use Rattle.book.specs.declared.Tested.{Tested}
 use Rattle.book.specs.declared.Tested.the-variants.{Passed, Refused}
 use Rattle.book.specs.Refusals.{byTail}
 use Rattle.book.specs.Words.{kind, value, word}
+use Rattle.book.specs.Due.{margin, classOf, Margined, dueBy}
 use Rattle.book.specs.Rows.{Contents, refused, accepted, refusedOr, numbersOf, rowTests, lengthOf, rowOf, endStands, endTests, readRows}
 use Rattle.book.specs.Order.{orderTests}
-use Rattle.book.specs.Book.{headTests, inOrder, readBook}
+use Rattle.book.specs.Book.{headTests, inOrder, readWords, readBook}
 use Rattle.book.proofs.Tests.{never, and-left, and-right, then-right, not-refused, Fit, row-fits, HeadFit, head-fits}
 use Rattle.book.proofs.Reached.{read-end, read-on}
 
@@ -34,29 +37,42 @@ or-contents : (o : Tested) (c : Contents) {f : ℕ} {rs : List Row} → refusedO
 or-contents Passed c e = e
 or-contents (Refused n p) c e = absurd (no-contents e)
 
--- The ranges of a row.
+-- The ranges of a row, and the due of its class.
 pub record RowRanged (r : Row) : Type 0 where
   pub release : r .release ≤ 10000000
   pub least : 1 ≤ r .length
   pub most : r .length ≤ 30000
   pub due : r .due ≤ 20000000
+  pub class : (c : ℕ) → r .class ≡ Of c → (c < 8) × (r .due ≡ r .release + r .length + margin c)
 
 abbrev pub AllRanged : List Row → Type 0
 AllRanged rs = (i : ℕ) → i < length rs → RowRanged (getD rs i noRow)
 
 -- Length lies between 1 and 30,000.
-length-range : (pages pace : ℕ) → 1 ≤ pages → pages ≤ 2000 → 4 ≤ pace → (1 ≤ lengthOf pages pace) × (lengthOf pages pace ≤ 30000)
-length-range pages pace a b c =
-    let p : 0 < pace = omega arith in
-    let n = pages * 60 + (pace - 1) in
-    let low : 1 ≤ n / pace = le-div-iff-mul-le {k = pace} {x = 1} {y = n} p .1 (omega arith) in
-    let high : n / pace < 30001 = div-lt-iff-lt-mul {k = pace} {x = n} {y = 30001} p .1 (omega arith) in
-    (low, omega arith)
+length-least : (pages pace : ℕ) → 1 ≤ pages → 4 ≤ pace → 1 ≤ lengthOf pages pace
+length-least pages pace a c = le-div-iff-mul-le {k = pace} {x = 1} {y = pages * 60 + (pace - 1)} (omega arith) .1 (omega arith)
+
+pub length-most : (pages pace : ℕ) → pages ≤ 2000 → 4 ≤ pace → lengthOf pages pace ≤ 30000
+length-most pages pace b c =
+    let below : lengthOf pages pace < 30001 = div-lt-iff-lt-mul {k = pace} {x = pages * 60 + (pace - 1)} {y = 30001} (omega arith) .1 (omega arith) in
+    omega arith
+
+-- The due that a class gives.
+class-due : (k : Class) (release length told c : ℕ) → Margined k → k ≡ Of c → (c < 8) × (dueBy k release length told ≡ release + length + margin c)
+unfolding dueBy
+class-due None release length told c m e = never (cc)
+class-due (Of d) release length told c m e = let s : d ≡ c = cc in rw (← s) ((m, refl))
 
 row-ranged : (numbers : List ℕ) (pace : ℕ) (ws : List ℕ) → 4 ≤ pace → Fit numbers ws → RowRanged (rowOf pace ws)
 row-ranged numbers pace ws h f =
-    let m = length-range (value (word ws 2)) pace (f .pages .least) (f .pages .most) h in
-    record { release = f .release .most; least = m .0; most = m .1; due = f .due .most }
+    let m = length-most (value (word ws 2)) pace (f .pages .most) h in
+    record {
+      release = f .release .most;
+      least = length-least (value (word ws 2)) pace (f .pages .least) h;
+      most = m;
+      due = f .due .most (value (word ws 1)) (lengthOf (value (word ws 2)) pace) (f .release .most) m;
+      class = λ c. class-due (classOf ws) (value (word ws 1)) (lengthOf (value (word ws 2)) pace) (value (word ws 3)) c (f .due .class);
+    }
 
 ranged-on : (rows : List Row) (r : Row) → AllRanged rows → RowRanged r → AllRanged (rows ++ (r ∷ []))
 ranged-on rows r h g i l = go (ltb i (length rows)) (ltb-true i (length rows)) (ltb-false i (length rows))
@@ -123,7 +139,7 @@ taken (suc more) free pace rows place ws f rs p h r =
 abbrev pub bookRows : List ℕ → Contents
 bookRows ws = readRows 257 (value (word ws 0)) (value (word ws 1)) [] 2 (drop 2 ws)
 
--- An accepted book: its head, its rows, its length in words, and its order.
+-- A book that passed tests 1 to 7: its head, its rows, and its length in words.
 pub record WholeBook (ws : List ℕ) (f : ℕ) (rs : List Row) : Type 0 where
   pub head : HeadFit ws
   pub free : f ≡ value (word ws 0)
@@ -131,8 +147,22 @@ pub record WholeBook (ws : List ℕ) (f : ℕ) (rs : List Row) : Type 0 where
   pub some : 1 ≤ length rs
   pub words : length ws ≡ 4 * length rs + 3
   pub ranged : AllRanged rs
-  pub ordered : orderTests 2 rs ≡ Passed
 
+pub whole-words : (ws : List ℕ) (f : ℕ) (rs : List Row) → readWords ws ≡ accepted f rs → WholeBook ws f rs
+unfolding readWords
+whole-words ws f rs e =
+    let h = head-fits ws (or-tests (headTests ws) (bookRows ws) e) in
+    let t = taken 257 (value (word ws 0)) (value (word ws 1)) [] 2 (drop 2 ws) f rs (h .pace .least) refl (or-contents (headTests ws) (bookRows ws) e) in
+    record {
+      head = h;
+      free = t .same-free;
+      few = t .few;
+      some = t .some;
+      words = omega (arith, t .words, h .pace .there, length-drop 2 ws);
+      ranged = t .ranged (λ i l. let x : ⊥ = omega arith in absurd x);
+    }
+
+-- An accepted book passed them, and its rows are in order.
 order-contents : (x : Contents) (f : ℕ) (rs : List Row) → inOrder x ≡ accepted f rs → x ≡ accepted f rs
 unfolding inOrder
 order-contents (refused n p) f rs e = e
@@ -149,16 +179,8 @@ order-passed (accepted free rows) f rs e =
 
 pub whole : (ws : List ℕ) (f : ℕ) (rs : List Row) → readBook ws ≡ accepted f rs → WholeBook ws f rs
 unfolding readBook
-whole ws f rs e =
-    let h = head-fits ws (or-tests (headTests ws) (inOrder (bookRows ws)) e) in
-    let o = or-contents (headTests ws) (inOrder (bookRows ws)) e in
-    let t = taken 257 (value (word ws 0)) (value (word ws 1)) [] 2 (drop 2 ws) f rs (h .pace .least) refl (order-contents (bookRows ws) f rs o) in
-    record {
-      head = h;
-      free = t .same-free;
-      few = t .few;
-      some = t .some;
-      words = omega (arith, t .words, h .pace .there, length-drop 2 ws);
-      ranged = t .ranged (λ i l. let x : ⊥ = omega arith in absurd x);
-      ordered = order-passed (bookRows ws) f rs o;
-    }
+whole ws f rs e = whole-words ws f rs (order-contents (readWords ws) f rs e)
+
+pub ordered : (ws : List ℕ) (f : ℕ) (rs : List Row) → readBook ws ≡ accepted f rs → orderTests 2 rs ≡ Passed
+unfolding readBook
+ordered ws f rs e = order-passed (readWords ws) f rs e

@@ -27,9 +27,12 @@ unfoldable pub inOrder : Contents → Contents
 inOrder (refused n p) = refused n p
 inOrder (accepted free rows) = refusedOr (orderTests 2 rows) (accepted free rows)
 
--- The book: the free minute, the pace, 1 to 256 rows, the end.
+-- The book: the free minute, the pace, 1 to 256 rows, the end. Tests 1 to 7; then all tests.
+unfoldable pub readWords : List ℕ → Contents
+readWords ws = refusedOr (headTests ws) (readRows 257 (value (word ws 0)) (value (word ws 1)) [] 2 (drop 2 ws))
+
 unfoldable pub readBook : List ℕ → Contents
-readBook ws = refusedOr (headTests ws) (inOrder (readRows 257 (value (word ws 0)) (value (word ws 1)) [] 2 (drop 2 ws)))
+readBook ws = inOrder (readWords ws)
 
 -- The table: the free minute, the count of rows, the rows, and no row in the places after them. And the rows that it holds.
 unfoldable pub tableOf : ℕ → List Row → Table
@@ -69,5 +72,5 @@ rowWords book k = wordsAt (rowPlace book k) book
 
 -- Opens every definition of the book: name it on an `unfolding` line where all is to be computed.
 unfoldable pub openBook : Unit {0}
-unfolding openRows openOrder headTests inOrder readBook tableOf readingOf placeIn
+unfolding openRows openOrder headTests inOrder readWords readBook tableOf readingOf placeIn
 openBook = tt

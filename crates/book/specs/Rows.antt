@@ -1,5 +1,5 @@
--- The rows of a book: the words of a row, the tests 4 to 7, length and due of a row, and the rows read one after another up to the end word.
--- Rests on: Words. As there, `ws` is the book from `place` on.
+-- The rows of a book: the words of a row, the tests 4 to 7, the length of a row, and the rows read one after another up to the end word.
+-- Rests on: Words, Due. As there, `ws` is the book from `place` on.
 use Prim.Native.Nat.{ℕ, zero, suc, _+_, _-_, _*_, _/_}
 use mathlib.Core.Bool.{Bool, true, false, not, _&&_, _||_}
 use mathlib.Core.List.{List, [], _∷_, _++_, map}
@@ -11,7 +11,8 @@ use Rattle.book.specs.declared.Tested.the-variants.{Passed, Refused}
 use Rattle.book.specs.declared.RowRead.{RowRead}
 use Rattle.book.specs.declared.RowRead.the-variants as read
 use Rattle.book.specs.Refusals.{byTwice, byFull, byCount, byTail, refuseIf, _then_}
-use Rattle.book.specs.Words.{kind, value, word, kindTests, wordTests, openWords}
+use Rattle.book.specs.Words.{kind, value, word, kindTests, wordTests}
+use Rattle.book.specs.Due.{dueTests, classOf, dueOf, openDue}
 
 -- What a book gives: the refusal with its number and place, or the free minute of the desk and the rows of the table.
 pub data Contents : Type 0 where
@@ -38,11 +39,7 @@ numberTests numbers place ws =
     refuseIf (leb 256 (length numbers)) byFull place then
     refuseIf (stands (value (word ws 0)) numbers) byTwice place
 
--- The due word of a row: kind 6, 0 to 20,000,000.
-abbrev pub dueTests : ℕ → List ℕ → Tested
-dueTests place ws = wordTests 6 0 20000000 place ws 3
-
--- The four words of a row: number; release, kind 4, 0 to 10,000,000; pages, kind 5, 1 to 2,000; due.
+-- The four words of a row: number; release, kind 4, 0 to 10,000,000; pages, kind 5, 1 to 2,000; due or class.
 unfoldable pub rowTests : List ℕ → ℕ → List ℕ → Tested
 rowTests numbers place ws =
     numberTests numbers place ws then
@@ -54,14 +51,11 @@ rowTests numbers place ws =
 abbrev pub lengthOf : (pages pace : ℕ) → ℕ
 lengthOf pages pace = (pages * 60 + (pace - 1)) / pace
 
--- Due: the value of the due word.
-abbrev pub dueOf : List ℕ → ℕ
-dueOf ws = value (word ws 3)
-
--- A row of the table: number, release, length, due.
+-- A row of the table: number, release, length, due, and the class or that it has none.
 abbrev pub rowOf : (pace : ℕ) → List ℕ → Row
 rowOf pace ws =
-    record { number = value (word ws 0); release = value (word ws 1); length = lengthOf (value (word ws 2)) pace; due = dueOf ws }
+    let length = lengthOf (value (word ws 2)) pace in
+    record { number = value (word ws 0); release = value (word ws 1); length = length; due = dueOf (value (word ws 1)) length ws; class = classOf ws }
 
 -- What the row reader answers: the row whose tests are passed, or the refusal.
 unfoldable pub rowReadOf : Tested → Row → RowRead
@@ -89,5 +83,5 @@ readRows (suc more) free pace rows place ws = elim (endStands (length rows) ws) 
 
 -- Opens every definition of this file and of those that it rests on.
 unfoldable pub openRows : Unit {0}
-unfolding openWords stands numberTests rowTests rowReadOf endStands endTests readRows
+unfolding openDue stands numberTests rowTests rowReadOf endStands endTests readRows
 openRows = tt

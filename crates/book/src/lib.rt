@@ -5,9 +5,11 @@ ghost use mathlib.Core.List.{[]};
 ghost use lib.ListN.{length, take, drop};
 ghost use Rattle.book.specs.Refusals.{refuseIf, _then_};
 ghost use Rattle.book.specs.Words.{kind, value, word, outside, kindTests, wordTests};
-ghost use Rattle.book.specs.Rows.{stands, numberTests, dueTests, rowTests, lengthOf, dueOf, rowOf, rowReadOf, endStands, endTests, readRows};
+ghost use Rattle.book.specs.Due.{margin, classOf, dueTests, Margined, dueBy};
+ghost use Rattle.book.specs.Rows.{stands, numberTests, rowTests, lengthOf, rowOf, rowReadOf, endStands, endTests, readRows};
 ghost use Rattle.book.specs.Order.{disordered, orderTests};
 ghost use Rattle.book.specs.Book.{headTests, readBook, tableOf, tableRows, readingOf, settledOf, rowPlace, rowWords};
+use schedule::Class;
 use schedule::Desk;
 use schedule::Row;
 
@@ -16,6 +18,9 @@ pub enum Tested {
     Passed,
     Refused(u32, usize),
 }
+
+// The margins in minutes of the turnaround classes, from class 0 on.
+const MARGINS: [u32; 8] = [60, 120, 480, 1_440, 4_320, 10_080, 20_160, 43_200];
 
 // The rows that a book gives, with the free minute of the desk. Places from `count` on hold no row.
 pub struct Table {
@@ -78,6 +83,9 @@ impl Table {
 
     pub const MOST_PACE: u32 = 120;
 
+    // The last turnaround class.
+    pub const LAST_CLASS: u32 = 7;
+
     // No row in any place.
     fn empty(free: u32) -> Table
         ensures { λ r. ⌜ r ≡ tableOf free [] ⌝ }
@@ -87,6 +95,7 @@ impl Table {
             release: 0,
             length: 0,
             due: 0,
+            class: Class::None,
         };
         Table {
             free: free,
@@ -196,12 +205,27 @@ fn number_tests(numbers: &[u32; Desk::ROWS], count: usize, place: usize, rest: &
     then(due, then(full, twice))
 }
 
-// The tests of the due word.
+// The class of a row, or that it has none: a word of kind 0 in the place of the due word is a class.
+fn class_of(rest: &[u32]) -> Class
+    ensures { λ r. ⌜ r ≡ classOf (now (rest .entry)) ⌝ }
+{
+    let w = word_at(rest, 3);
+    if kind_of(w) == 0 {
+        Class::Of(value_of(w))
+    } else {
+        Class::None
+    }
+}
+
+// The tests of the due word, or of the class word in its place.
 fn due_tests(place: usize, rest: &[u32]) -> Tested
     requires { ⌜ place ≤ 1026 ⌝ }
     ensures { λ r. ⌜ r ≡ dueTests place (now (rest .entry)) ⌝ }
 {
-    word_tests(6, 0, Desk::DUES, place, rest, 3)
+    match class_of(rest) {
+        Class::None => word_tests(6, 0, Desk::DUES, place, rest, 3),
+        Class::Of(_) => word_tests(0, 0, Table::LAST_CLASS, place, rest, 3),
+    }
 }
 
 // The tests of a row's four words.
@@ -224,27 +248,41 @@ fn length_of(pages: u32, pace: u32) -> u32
     (pages * 60 + (pace - 1)) / pace
 }
 
-// Due: the value of the due word.
-fn due_of(rest: &[u32]) -> u32
-    ensures { λ r. ⌜ r ≡ dueOf (now (rest .entry)) ⌝ }
+// The margin of a class.
+fn margin_of(class: u32) -> u32
+    requires { ⌜ class < 8 ⌝ }
+    ensures { λ r. ⌜ r ≡ margin class ⌝ }
 {
-    value_of(word_at(rest, 3))
+    MARGINS[class as usize]
+}
+
+// Due: what the due word told; of a class, release plus length plus margin.
+fn due_of(class: Class, release: u32, length: u32, told: u32) -> u32
+    requires { ⌜ Margined class × (release ≤ 10000000) × (length ≤ 30000) ⌝ }
+    ensures { λ r. ⌜ r ≡ dueBy class release length told ⌝ }
+{
+    match class {
+        Class::None => told,
+        Class::Of(c) => release + length + margin_of(c),
+    }
 }
 
 // The row that the first four words of the rest make.
 fn row_of(pace: u32, rest: &[u32]) -> Row
-    requires { ⌜ (value (word (now rest) 2) ≤ 2000) × (4 ≤ pace) × (pace ≤ 120) ⌝ }
+    requires { ⌜ Margined (classOf (now rest)) × (value (word (now rest) 1) ≤ 10000000) × (value (word (now rest) 2) ≤ 2000) × (4 ≤ pace) × (pace ≤ 120) ⌝ }
     ensures { λ r. ⌜ r ≡ rowOf pace (now (rest .entry)) ⌝ }
 {
     let number = value_of(word_at(rest, 0));
     let release = value_of(word_at(rest, 1));
     let length = length_of(value_of(word_at(rest, 2)), pace);
-    let due = due_of(rest);
+    let class = class_of(rest);
+    let due = due_of(class, release, length, value_of(word_at(rest, 3)));
     Row {
         number: number,
         release: release,
         length: length,
         due: due,
+        class: class,
     }
 }
 

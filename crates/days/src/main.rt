@@ -11,6 +11,7 @@ fn main() {
     plans::worked();
     plans::marked();
     tests::words();
+    tests::classes();
     tests::rows();
     tests::ends();
     tests::disorder();
@@ -20,5 +21,6 @@ fn main() {
     tests::unlisted();
     plans::bounds();
     plans::ties();
+    plans::classes();
     plans::many();
 }

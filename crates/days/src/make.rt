@@ -7,6 +7,9 @@ pub const ROOM: usize = 1_100;
 
 const KIND: u32 = 536_870_912;
 
+// Added to a class that is given in the place of a due.
+pub const CLASS: u32 = 1_000_000_000;
+
 // A word of a kind and a value.
 pub fn word(kind: u32, value: u32) -> u32 {
     (kind % 8) * KIND + value % KIND
@@ -15,6 +18,11 @@ pub fn word(kind: u32, value: u32) -> u32 {
 // A word with another kind.
 pub fn with_kind(w: u32, kind: u32) -> u32 {
     word(kind, w % KIND)
+}
+
+// A word of the kind after its own, which is never due in its place.
+pub fn of_next_kind(w: u32) -> u32 {
+    word((w / KIND + 1) % 8, w % KIND)
 }
 
 // A word with another value.
@@ -56,6 +64,14 @@ pub fn head(book: &mut [u32; ROOM], free: u32, pace: u32) -> usize
     put(book, at, word(2, pace))
 }
 
+// The word of a due, or of a class.
+fn due_word(due: u32) -> u32 {
+    if due < CLASS {
+        return word(6, due);
+    }
+    word(0, due - CLASS)
+}
+
 // The four words of a row.
 pub fn row(
     book: &mut [u32; ROOM],
@@ -71,10 +87,10 @@ pub fn row(
     let second = put(book, at, word(3, number));
     let third = put(book, second, word(4, release));
     let fourth = put(book, third, word(5, pages));
-    put(book, fourth, word(6, due))
+    put(book, fourth, due_word(due))
 }
 
-// A book of rows that are given by release, pages and due one after another; their numbers are 901, 902 and so on.
+// A book of rows that are given by release, pages and due or class one after another; their numbers are 901, 902 and so on.
 pub fn book(book: &mut [u32; ROOM], free: u32, pace: u32, rows: &[u32]) -> usize
     requires { ⌜ length (now book) ≡ 1100 ⌝ }
     ensures { λ _. ⌜ length (now (book .exit)) ≡ 1100 ⌝ }

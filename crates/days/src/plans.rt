@@ -4,6 +4,7 @@ ghost use mathlib.Core.Path.{_≡_};
 ghost use lib.ListN.{length, take};
 use crate::calls;
 use crate::make;
+use crate::make::CLASS;
 use crate::make::ROOM;
 use crate::say;
 
@@ -141,6 +142,62 @@ pub fn ties() {
         &[4, 1, 20, 2, 5, 60, 30, 2, 70, 1, 9, 90],
     );
     whole(b"due falls", 0, 60, &[0, 1, 5, 0, 1, 4]);
+}
+
+// One row of a class, released at 10 and read for 5 minutes.
+fn margin(class: u32)
+    requires { ⌜ class ≤ 9 ⌝ }
+{
+    say::after(b"class ", class as u64);
+    whole(b"", 0, 60, &[10, 5, CLASS + class]);
+}
+
+// Each class, and the number after the last.
+fn margins() {
+    let mut class: u32 = 0;
+    while class < 9 {
+        margin(class);
+        class += 1;
+    }
+}
+
+// Turnaround classes, alone and beside dues.
+pub fn classes() {
+    margins();
+    whole(b"class above a due", 0, 60, &[1, 1, CLASS, 0, 10, 70]);
+    whole(b"due above a class", 0, 60, &[1, 1, 62, 0, 11, CLASS]);
+    whole(
+        b"one class",
+        0,
+        60,
+        &[3, 2, CLASS + 1, 0, 5, CLASS + 1, 4, 8, CLASS + 1],
+    );
+    whole(
+        b"one class, due falls",
+        0,
+        60,
+        &[3, 2, CLASS + 1, 0, 4, CLASS + 1],
+    );
+    whole(b"class falls", 0, 60, &[0, 1, CLASS + 2, 420, 1, CLASS]);
+    whole(
+        b"class falls, and due",
+        0,
+        60,
+        &[0, 1, CLASS + 2, 419, 1, CLASS],
+    );
+    whole(b"class rises", 0, 60, &[0, 1, CLASS, 0, 1, CLASS + 1]);
+    whole(
+        b"latest class",
+        10_000_000,
+        4,
+        &[10_000_000, 2_000, CLASS + 7],
+    );
+    let mut book = [0u32; ROOM];
+    let n = make::book(&mut book, 0, 60, &[1, 1, 62, 0, 11, CLASS]);
+    say::text(b"rows of a due and of a class:");
+    calls::row(make::first(&book, n), 1);
+    calls::row(make::first(&book, n), 2);
+    say::line();
 }
 
 // Books with as many plans as rows.

@@ -4,6 +4,7 @@ ghost use mathlib.Core.Path.{_≡_};
 ghost use lib.ListN.{length, take};
 use crate::calls;
 use crate::make;
+use crate::make::CLASS;
 use crate::make::ROOM;
 use crate::say;
 
@@ -66,14 +67,14 @@ fn values(base: &[u32], list: &[u32]) {
     }
 }
 
-// A word of no kind at a place, and a cut after each place.
-fn kind_and_cut(base: &[u32], place: usize) {
+// A word of another kind at a place, and a cut after each place.
+fn kind_and_cut(base: &[u32], place: usize, w: u32) {
     say::after(b"kind at ", place as u64);
     say::text(b" and cut:");
     let mut n: usize = 0;
     while n < base.len() {
         n += 1;
-        with(make::first(base, n), place, 0);
+        with(make::first(base, n), place, w);
     }
     say::line();
 }
@@ -81,7 +82,7 @@ fn kind_and_cut(base: &[u32], place: usize) {
 fn kinds_and_cuts(base: &[u32]) {
     let mut place: usize = 0;
     while place < base.len() {
-        kind_and_cut(base, place);
+        kind_and_cut(base, place, make::of_next_kind(base[place]));
         place += 1;
     }
 }
@@ -119,6 +120,16 @@ pub fn words() {
     kinds_and_cuts(make::first(&book, n));
 }
 
+// The same at each word of a book with classes.
+pub fn classes() {
+    let mut book = [0u32; ROOM];
+    let n = make::book(&mut book, 0, 60, &[1, 1, CLASS, 0, 10, 70, 20, 5, CLASS]);
+    cuts(make::first(&book, n));
+    kinds(make::first(&book, n));
+    values(make::first(&book, n), &[0, 1, 2, 6, 7, 8, 9, 536_870_911]);
+    kinds_and_cuts(make::first(&book, n));
+}
+
 // How often a cut at a place is refused 1 there.
 fn cut_count(base: &[u32]) -> usize
     ensures { λ r. ⌜ r ≤ length (now (base .entry)) ⌝ }
@@ -138,14 +149,14 @@ fn is_refused_with(base: &[u32], place: usize, w: u32, number: u32) -> bool {
     calls::is_refused(make::first(&book, n), number, place)
 }
 
-// How often a word of no kind is refused 2 at its place.
+// How often a word of another kind is refused 2 at its place.
 fn kind_count(base: &[u32]) -> usize
     ensures { λ r. ⌜ r ≤ length (now (base .entry)) ⌝ }
 {
     let mut count: usize = 0;
     let mut place: usize = 0;
     while place < base.len() {
-        count += calls::one_if(is_refused_with(base, place, 0, 2));
+        count += calls::one_if(is_refused_with(base, place, make::of_next_kind(base[place]), 2));
         place += 1;
     }
     count

@@ -14,6 +14,7 @@ use planner::Ordered;
 pub struct Tally {
     pub books: u32,
     pub plans: [u32; 9],
+    pub classes: u32,
     pub ties: u32,
     pub idle: u32,
     pub early: u32,
@@ -31,6 +32,7 @@ impl Tally {
         Tally {
             books: 0,
             plans: [0; 9],
+            classes: 0,
             ties: 0,
             idle: 0,
             early: 0,
@@ -100,6 +102,10 @@ fn counted(t: Tally, day: Day, front: Front, tried: u32) -> Tally {
     let k = front.count;
     if k < 9 {
         u.plans[k] = more(u.plans[k]);
+    }
+    let class = day.class;
+    if class[0] < day::NO_CLASS {
+        u.classes = more(u.classes);
     }
     if has_ties(day) {
         u.ties = more(u.ties);

@@ -1,9 +1,12 @@
-// Days made by a rule: due never falls and spare never rises from row to row.
+// Days made by a rule: due never falls and spare never rises from row to row. In days of shape 4 all rows are of one turnaround class.
 ghost use mathlib.Core.Path.{_≡_};
 ghost use Prim.Native.Nat.{_≤_, _<_};
 ghost use lib.ListN.{length};
 
-// Rows by release, pages, length and due.
+// Stands for no class.
+pub const NO_CLASS: u32 = 8;
+
+// Rows by release, pages, length, due and class.
 pub struct Day {
     pub free: u32,
     pub pace: u32,
@@ -12,6 +15,7 @@ pub struct Day {
     pub pages: [u32; 8],
     pub length: [u32; 8],
     pub due: [u32; 8],
+    pub class: [u32; 8],
 }
 
 // The next number of a sequence that goes round below 2^31.
@@ -67,12 +71,15 @@ fn step_of(shape: u32, i: u32, s: u32) -> u32
     }
 }
 
-// How much of the rise goes to the due: any part in days of shape 0, nearly all in others.
+// How much of the rise goes to the due: any part in days of shape 0, all in days of one class, nearly all in others.
 fn share_of(shape: u32, s: u32, rise: u32) -> u32
     requires { ⌜ rise < 1000000 ⌝ }
 {
     if shape == 0 {
         return (s / 32) % (rise + 1);
+    }
+    if shape == 4 {
+        return rise;
     }
     if rise > 0 && s % 8 == 0 {
         return rise - 1;
@@ -80,13 +87,36 @@ fn share_of(shape: u32, s: u32, rise: u32) -> u32
     rise
 }
 
-// The spare of the first row, at most.
+// The class of all rows of a day, or none.
+fn class_of(shape: u32, s: u32) -> u32 {
+    if shape == 4 {
+        return (s / 512) % 8;
+    }
+    NO_CLASS
+}
+
+// The minutes from release plus length to the due of a class.
+fn margin_of(class: u32) -> u32 {
+    match class {
+        0 => 60,
+        1 => 120,
+        2 => 480,
+        3 => 1_440,
+        4 => 4_320,
+        5 => 10_080,
+        6 => 20_160,
+        _ => 43_200,
+    }
+}
+
+// The spare of the first row, at most: the margin in days of one class.
 fn spare_of(shape: u32, s: u32) -> u32 {
     match shape {
         0 => (s / 1_024) % 50,
         1 => (s / 1_024) % 6,
         2 => 40 + (s / 1_024) % 100,
-        _ => (s / 1_024) % 3,
+        3 => (s / 1_024) % 3,
+        _ => margin_of(class_of(shape, s)),
     }
 }
 
@@ -133,14 +163,16 @@ fn bare(free: u32, pace: u32, count: usize) -> Day {
         pages: [0; 8],
         length: [0; 8],
         due: [0; 8],
+        class: [NO_CLASS; 8],
     }
 }
 
 // Day n of the rule. `ready` is the end of a row on an empty desk: by what it rises, due rises and spare falls together.
 pub fn made(n: u32) -> Day {
     let mut s = next(next(n % 1_000_000 + 1_000));
-    let shape = (n / 8) % 4;
+    let shape = (n / 8) % 5;
     let pace = pace_of(s);
+    let class = class_of(shape, s);
     let count = at_most((n % 8) as usize + 1, 8);
     let mut due = spare_of(shape, s);
     let mut ready: u32 = 0;
@@ -159,9 +191,18 @@ pub fn made(n: u32) -> Day {
         day.pages[i] = pages;
         day.length[i] = length;
         day.due[i] = due;
+        day.class[i] = class;
         i += 1;
     }
     day
+}
+
+// The last word of a row: its class, or its due.
+fn last_word(class: u32, due: u32) -> u32 {
+    if class < NO_CLASS {
+        return class;
+    }
+    3_221_225_472 + due % 536_870_912
 }
 
 // The book of a day: how many words. Rows have the numbers 11, 12 and so on.
@@ -172,6 +213,7 @@ pub fn book(day: Day, words: &mut [u32; 35]) -> usize
     let release = day.release;
     let pages = day.pages;
     let due = day.due;
+    let class = day.class;
     let count = at_most(day.count, 8);
     words[0] = 536_870_912 + day.free % 536_870_912;
     words[1] = 1_073_741_824 + day.pace % 536_870_912;
@@ -180,7 +222,7 @@ pub fn book(day: Day, words: &mut [u32; 35]) -> usize
         words[4 * i + 2] = 1_610_612_747 + i as u32;
         words[4 * i + 3] = 2_147_483_648 + release[i] % 536_870_912;
         words[4 * i + 4] = 2_684_354_560 + pages[i] % 536_870_912;
-        words[4 * i + 5] = 3_221_225_472 + due[i] % 536_870_912;
+        words[4 * i + 5] = last_word(class[i], due[i]);
         i += 1;
     }
     words[4 * i + 2] = 3_758_096_384 + i as u32;

@@ -29,6 +29,7 @@ use Rattle.book.specs.Rows.{accepted}
 use Rattle.book.specs.Book.{readBook}
 use Rattle.book.specs.Accepted.{AcceptedBook}
 use Rattle.book.proofs.Accepted.{accepted-book, accepted-ranged}
+use Rattle.book.proofs.OneClass.{one-class}
 use Rattle.planner.specs.declared.Ordered.the-variants as ordered
 use Rattle.planner.specs.declared.Judged.the-variants as judged
 use Rattle.planner.specs.Posting.{postingTests}
@@ -50,11 +51,12 @@ module _ {free : ℕ} {rows : List Row} (a : AcceptedBook free rows) where
   in-limits = record {
     few-rows = (a .some-row, a .few-rows);
     ranges = in-range 10000000 1 30000 20000000 256 (job rows) free (allRows rows) (accepted-ranged a) some-rows;
+    class-dues = a .classes;
   }
 
 -- Property 2.
-pub book-accepted : Property2
-book-accepted book free rows reads = in-limits (accepted-book book free rows reads)
+pub definitions-hold : Property2
+definitions-hold = record { book-accepted = λ book free rows reads. in-limits (accepted-book book free rows reads); one-class = one-class }
 
 module _ (book : List ℕ) (free : ℕ) (rows : List Row) (reads : readBook book ≡ accepted free rows) where
   a : AcceptedBook free rows

@@ -1,10 +1,11 @@
--- The days worked through, M1 to M13: a table of questions and expected answers, and the theorem that every entry holds of the definitions.
+-- The days worked through, M1 to M13 and days with classes: a table of questions and expected answers, and the theorem that every entry holds of the definitions.
 -- Rests on: Calls, Lines, the book.
 use Prim.Native.Nat.{ℕ, _+_, _*_}
 use mathlib.Core.Path.{_≡_, refl, sym, ap, _∙_}
 use mathlib.Core.List.{List, [], _∷_, _++_, map, List·Memᴰ, List·Memᴰ·head, List·Memᴰ·tail, head-eq-of-cons-eq, tail-eq-of-cons-eq}
 use lib.ListN.{length}
 use lib.IntN.{ℤ, pos, negsuc}
+use Rattle.schedule.specs.declared.Class.the-variants.{None, Of}
 use Rattle.schedule.specs.Rows.{openRows}
 use Rattle.schedule.specs.Desk.{openDesk}
 use Rattle.schedule.specs.Picks.{openPicks}
@@ -25,9 +26,10 @@ use Rattle.planner.specs.Posting.{openPosting}
 use Rattle.planner.specs.Calls.{Outcome, gives, listCall, boundCall, planCall, verdictCall, openCalls}
 use Rattle.planner.specs.Lines.{Line, Printed, listing, printed, openLines}
 
--- A row of a book as the days give it: number, release, pages, due.
+-- A row of a book as the days give it: number, release, pages and due, or class.
 pub data Entry : Type 0 where
   entry : ℕ → ℕ → ℕ → ℕ → Entry
+  sold : ℕ → ℕ → ℕ → ℕ → Entry
 
 -- A word of a kind and a value, and the words of a book.
 abbrev pub wordOf : ℕ → ℕ → ℕ
@@ -36,6 +38,7 @@ wordOf k v = k * 536870912 + v
 abbrev pub entryWords : List Entry → List ℕ
 entryWords [] = []
 entryWords (entry n r p d ∷ es) = wordOf 3 n ∷ wordOf 4 r ∷ wordOf 5 p ∷ wordOf 6 d ∷ entryWords es
+entryWords (sold n r p c ∷ es) = wordOf 3 n ∷ wordOf 4 r ∷ wordOf 5 p ∷ wordOf 0 c ∷ entryWords es
 
 abbrev pub book : (free pace : ℕ) → List Entry → List ℕ
 book free pace es = wordOf 1 free ∷ wordOf 2 pace ∷ (entryWords es ++ (wordOf 7 (length es) ∷ []))
@@ -55,6 +58,20 @@ equalRows = book 0 60 (entry 901 0 2 5 ∷ entry 902 0 2 5 ∷ [])
 
 abbrev pub fourRows : List ℕ
 fourRows = book 0 60 (entry 901 1 1 5 ∷ entry 902 0 10 12 ∷ entry 903 101 1 104 ∷ entry 904 100 20 122 ∷ [])
+
+-- One row of a class; M1's first row of class 0 above a row with a due; two rows of one class, whose dues fall or not.
+abbrev pub classRow : ℕ → List ℕ
+classRow c = book 0 60 (sold 901 10 5 c ∷ [])
+
+abbrev pub classAndDue : List ℕ
+classAndDue = book 0 60 (sold 901 1 1 0 ∷ entry 902 0 10 70 ∷ [])
+
+abbrev pub classRows : ℕ → List ℕ
+classRows pages = book 0 60 (sold 901 3 2 1 ∷ sold 902 0 pages 1 ∷ [])
+
+-- A row in which another word stands in the place of the due word.
+abbrev pub otherWord : ℕ → ℕ → List ℕ
+otherWord k v = wordOf 1 0 ∷ wordOf 2 60 ∷ wordOf 3 901 ∷ wordOf 4 10 ∷ wordOf 5 5 ∷ wordOf k v ∷ wordOf 7 1 ∷ []
 
 -- What is asked: the reading of a book, what slate prints, one of the calls, or a length.
 pub data Asked : Type 0 where
@@ -98,7 +115,10 @@ abbrev pub _gets_ : Asked → Told → Day
 a gets b = record { asked = a; told = b }
 
 infix 10 _gets_
--- How answers are written in the table: plans with the buffer; an order's end and lateness with the buffer; a refusal with the buffer; a line.
+-- How answers are written in the table: a book of one row, of class c; plans with the buffer; an order's end and lateness with the buffer; a refusal with the buffer; a line.
+abbrev pub due : ℕ → ℕ → Told
+due d c = reads (accepted 0 (record { number = 901; release = 10; length = 5; due = d; class = Of c } ∷ []))
+
 abbrev pub plans : ℕ → List ℕ → Told
 plans k b = lists (gives (listed.Plans k) b)
 
@@ -131,7 +151,7 @@ days =
     (posting threeRows (2 ∷ 1 ∷ 3 ∷ []) gets judges (judged.Beaten 25 (pos 6) 1)) ∷
     -- M7, M8: M1 with row 2 due 13 is accepted, due 14 is refused 8 at 6.
     (reading (twoRows 13) gets reads (accepted 0 (
-    record { number = 901; release = 1; length = 1; due = 5 } ∷ record { number = 902; release = 0; length = 10; due = 13 } ∷ []))) ∷
+    record { number = 901; release = 1; length = 1; due = 5; class = None } ∷ record { number = 902; release = 0; length = 10; due = 13; class = None } ∷ []))) ∷
     (reading (twoRows 14) gets reads (refused 8 6)) ∷
     -- M9: one row, free 7.
     (plan oneRow 1 (0 ∷ []) gets order 11 (pos 1) (1 ∷ [])) ∷
@@ -149,6 +169,25 @@ days =
     (wordsOf fourRows 2 gets words (wordOf 3 902 ∷ wordOf 4 0 ∷ wordOf 5 10 ∷ wordOf 6 12 ∷ [])) ∷
     (placeOf fourRows 2 gets finds (found.At 6)) ∷
     (placeOf fourRows 5 gets finds (found.Refused 11 4)) ∷
+    -- Classes: the eight margins, after release 10 and length 5; class 8 is out of range, and another kind is not due there.
+    (reading (classRow 0) gets due 75 0) ∷
+    (reading (classRow 1) gets due 135 1) ∷
+    (reading (classRow 2) gets due 495 2) ∷
+    (reading (classRow 3) gets due 1455 3) ∷
+    (reading (classRow 4) gets due 4335 4) ∷
+    (reading (classRow 5) gets due 10095 5) ∷
+    (reading (classRow 6) gets due 20175 6) ∷
+    (reading (classRow 7) gets due 43215 7) ∷
+    (reading (classRow 8) gets reads (refused 3 5)) ∷
+    (reading (otherWord 1 0) gets reads (refused 2 5)) ∷
+    (reading (otherWord 7 1) gets reads (refused 2 5)) ∷
+    -- A class above a due: row 901 is due 62.
+    (list classAndDue (0 ∷ 0 ∷ 0 ∷ 0 ∷ []) gets plans 2 (11 ∷ 4294967245 ∷ 12 ∷ 4294967238 ∷ [])) ∷
+    (printing classAndDue gets prints (listing 2 (line 11 (negsuc 50) (902 ∷ 901 ∷ []) ∷ line 12 (negsuc 57) (901 ∷ 902 ∷ []) ∷ []))) ∷
+    (wordsOf classAndDue 1 gets words (wordOf 3 901 ∷ wordOf 4 1 ∷ wordOf 5 1 ∷ wordOf 0 0 ∷ [])) ∷
+    -- Two rows of class 1: the second is due with the first, or a minute sooner.
+    (plan (classRows 5) 1 (0 ∷ 0 ∷ []) gets order 7 (negsuc 117) (2 ∷ 1 ∷ [])) ∷
+    (reading (classRows 4) gets reads (refused 8 6)) ∷
     []
 
 -- Two functions that give one list over a list agree at each of its elements.

@@ -1,10 +1,10 @@
 -- The three properties of the offered calls, for every book, bound, plan number, posting and buffer. Proved as `lent-memory` in
--- proofs/Memory.antt, and as `book-accepted` and `calls-keep-promise` in proofs/Promise.antt.
+-- proofs/Memory.antt, and as `definitions-hold` and `calls-keep-promise` in proofs/Promise.antt.
 --
 -- The contract of each offered function says that its answer and its buffer at exit are those of its call in Calls (list, order_for_bound,
 -- order_of_plan, verdict) or in the book's specs (row_place, row_words), whatever it is lent and told. So what is said here of the calls holds
 -- of the functions. Rests on: Calls, Answers, the book, the schedule.
-use Prim.Native.Nat.{ℕ, zero, suc, _-_, _*_, _≤_}
+use Prim.Native.Nat.{ℕ, zero, suc, _+_, _-_, _*_, _≤_, _<_}
 use mathlib.Core.Bool.{cond, not}
 use mathlib.Core.Path.{_≡_}
 use mathlib.Core.List.{List, [], _∷_, List·Memᴰ}
@@ -15,13 +15,16 @@ use lib.ListN.{length}
 use lib.IntN.{ℤ, pos, negsuc}
 use lib.Signed.{_≤ℤ_}
 use Rattle.schedule.specs.declared.Row.{Row}
-use Rattle.schedule.specs.Rows.{job, allRows}
+use Rattle.schedule.specs.declared.Class.the-variants.{Of}
+use Rattle.schedule.specs.Rows.{row, job, allRows}
 use Rattle.schedule.specs.Desk.{Pair, OrderOf, Attains, pairOf, endOf}
 use Rattle.schedule.specs.Plans.{beats}
 use Rattle.schedule.specs.Promise.{Rising}
 use Rattle.book.specs.declared.Found.the-variants as found
+use Rattle.book.specs.Due.{margin}
 use Rattle.book.specs.Rows.{accepted}
 use Rattle.book.specs.Book.{readBook, rowPlace, rowWords}
+use Rattle.book.specs.OneClass.{OneClass}
 use Rattle.planner.specs.declared.Listed.the-variants as listed
 use Rattle.planner.specs.declared.Ordered.the-variants as ordered
 use Rattle.planner.specs.declared.Judged.the-variants as judged
@@ -43,11 +46,17 @@ pub record LentMemoryOfCalls (book : List ℕ) : Type 0 where
   pub verdict : (posting : List ℕ) (n p : ℕ) → verdictCall book posting ≡ judged.Refused n p → (1 ≤ n) × (n ≤ 12)
   pub row : (k n p : ℕ) → rowPlace book k ≡ found.Refused n p → (1 ≤ n) × (n ≤ 12) × (rowWords book k ≡ [])
 
--- 2. The definitions: what the contracts cite. Of an accepted book, the greatest and least ends and latenesses.
+-- 2. The definitions: what the contracts cite. Of an accepted book, the greatest and least ends and latenesses, and the dues of its classes;
+-- and that a book of one class whose dues do not fall from row to row never meets disorder.
 pub record BookAccepted (free : ℕ) (rows : List Row) : Type 0 where
   pub few-rows : (1 ≤ length rows) × (length rows ≤ 256)
   pub ranges : (order : List ℕ) → OrderOf (allRows rows) order →
       (endOf (job rows) free order ≤ 17680000) × (pairOf (job rows) free order .late ≤ℤ pos 17680000) × (negsuc 19999998 ≤ℤ pairOf (job rows) free order .late)
+  pub class-dues : (i c : ℕ) → List·Memᴰ i (allRows rows) → row rows i .class ≡ Of c → (c < 8) × (row rows i .due ≡ row rows i .release + row rows i .length + margin c)
+
+pub record DefinitionsHold : Type 0 where
+  pub book-accepted : (book : List ℕ) (free : ℕ) (rows : List Row) → readBook book ≡ accepted free rows → BookAccepted free rows
+  pub one-class : OneClass
 
 -- 3. The cover. The plans that stand in a buffer, k of them: an end and a lateness in two's complement for each.
 unfoldable pub signed : ℕ → ℤ
@@ -114,7 +123,7 @@ abbrev pub Property1 : Type 0
 Property1 = (book : List ℕ) → LentMemoryOfCalls book
 
 abbrev pub Property2 : Type 0
-Property2 = (book : List ℕ) (free : ℕ) (rows : List Row) → readBook book ≡ accepted free rows → BookAccepted free rows
+Property2 = DefinitionsHold
 
 abbrev pub Property3 : Type 0
 Property3 = (book : List ℕ) (free : ℕ) (rows : List Row) → readBook book ≡ accepted free rows → CallsKeepPromise book free rows

@@ -4,12 +4,19 @@ ghost use Prim.Native.Nat.{_≤_, max};
 ghost use Rattle.theory.specs.Jobs.{Job};
 ghost use Rattle.schedule.specs.Offset.{raised, lowered, deskAt, deskAfter};
 
+// The turnaround class that a transcript was sold by, or that it was sold by none.
+pub enum Class {
+    None,
+    Of(u32),
+}
+
 // A row of the table: one transcript.
 pub struct Row {
     pub number: u32,
     pub release: u32,
     pub length: u32,
     pub due: u32,
+    pub class: Class,
 }
 
 // A desk in planning: the minute it stands at, and the worst lateness so far, raised by 2^31; 0 where no row is done.

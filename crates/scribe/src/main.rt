@@ -5,11 +5,13 @@
 //     free MINUTE
 //     pace PAGES
 //     row NUMBER RELEASE PAGES DUE
+//     row NUMBER RELEASE PAGES class CLASS
 //
-// First free, then pace, then 1 to 256 rows. What values the words have is for the book's reader to judge: here a number has only to fit
-// the 29 bits of a word's value.
+// First free, then pace, then 1 to 256 rows, each with its due or with its turnaround class. What values the words have is for the book's
+// reader to judge: here a number has only to fit the 29 bits of a word's value.
 ghost use mathlib.Core.Path.{_≡_};
 ghost use Prim.Native.Nat.{_+_, _-_, _*_, _%_, _≤_, _<_};
+ghost use mathlib.Core.Bool.{cond};
 ghost use lib.ListN.{length};
 ghost use Rattle.scribe.specs.Numbers.{isDigit, allDigits, decimal, sized, numberOf};
 use libc::STDERR_FILENO;
@@ -28,6 +30,12 @@ enum Number {
 struct Taken {
     number: Number,
     next: usize,
+}
+
+// Where a word stands in its line: its start, and the place after it.
+struct Span {
+    start: usize,
+    end: usize,
 }
 
 // The day as far as it is read: the line, what may come next, the rows, and what is wrong, if anything.
@@ -247,12 +255,77 @@ fn numbers(line: &[u8], many: usize, values: &mut [u32; 4]) -> u32
     Day::NOTHING
 }
 
+// The next word of a line.
+fn next_word(line: &[u8], at: usize) -> Span
+    requires { ⌜ at ≤ length (now line) ⌝ }
+    ensures { λ r. ⌜ (r .start ≤ r .end) × (r .end ≤ length (now (line .entry))) ⌝ }
+{
+    let start = word_start(line, at);
+    Span {
+        start: start,
+        end: word_end(line, start),
+    }
+}
+
+// What stands after the pages of a row: its due, or the word class.
+fn after_pages(line: &[u8]) -> Span
+    ensures { λ r. ⌜ (r .start ≤ r .end) × (r .end ≤ length (now (line .entry))) ⌝ }
+{
+    let number = next_word(line, 0);
+    let release = next_word(line, number.end);
+    let pages = next_word(line, release.end);
+    next_word(line, pages.end)
+}
+
+// The row has a class in place of its due.
+fn has_class(line: &[u8]) -> bool {
+    let word = after_pages(line);
+    let start = word.start;
+    let end = word.end;
+    check::same(&line[start..end], b"class")
+}
+
+// Reads the numbers of a row that has a class, the class last; answers what is wrong.
+fn class_numbers(line: &[u8], values: &mut [u32; 4]) -> u32 {
+    let word = after_pages(line);
+    let start = word.start;
+    let end = word.end;
+    let wrong = numbers(&line[0..start], 3, values);
+    if wrong != Day::NOTHING {
+        return wrong;
+    }
+    let mut class = [0u32; 4];
+    let last = numbers(&line[end..], 1, &mut class);
+    values[3] = class[0];
+    last
+}
+
+// Reads the four numbers of a row; answers what is wrong.
+fn row_numbers(line: &[u8], classed: bool, values: &mut [u32; 4]) -> u32 {
+    if classed {
+        class_numbers(line, values)
+    } else {
+        numbers(line, 4, values)
+    }
+}
+
 // The word of a kind with a value, which has 29 bits.
 fn word_of(kind: u32, value: u32) -> u32
     requires { ⌜ kind < 8 ⌝ }
     ensures { λ r. ⌜ r ≡ kind * 536870912 + value % 536870912 ⌝ }
 {
     kind * 536_870_912 + value % 536_870_912
+}
+
+// The last word of a row: its class, kind 0, or its due, kind 6.
+fn last_word(classed: bool, value: u32) -> u32
+    ensures { λ r. ⌜ r ≡ cond classed 0 6 * 536870912 + value % 536870912 ⌝ }
+{
+    if classed {
+        word_of(0, value)
+    } else {
+        word_of(6, value)
+    }
 }
 
 fn free_line(line: &[u8], day: Day, words: &mut [u32; Day::WORDS]) -> Day
@@ -306,12 +379,13 @@ fn row_line(line: &[u8], day: Day, words: &mut [u32; Day::WORDS]) -> Day
         return day.but(Day::FULL);
     }
     let mut values = [0u32; 4];
-    let wrong = numbers(line, 4, &mut values);
+    let classed = has_class(line);
+    let wrong = row_numbers(line, classed, &mut values);
     let at = 4 * rows + 2;
     words[at] = word_of(3, values[0]);
     words[at + 1] = word_of(4, values[1]);
     words[at + 2] = word_of(5, values[2]);
-    words[at + 3] = word_of(6, values[3]);
+    words[at + 3] = last_word(classed, values[3]);
     Day {
         line: day.line,
         stage: Day::ROW,
@@ -432,10 +506,14 @@ fn say(text: &[u8]) {
 fn say_wrong(wrong: u32) {
     match wrong {
         Day::UNKNOWN => say(b"unknown word: a line begins with free, pace or row\n"),
-        Day::MISSING => say(b"a number is missing: free and pace have one, a row has four\n"),
+        Day::MISSING => say(
+            b"a number is missing: free and pace have one, a row has four, or three and class with one\n",
+        ),
         Day::STRANGE => say(b"not a number: only the digits 0 to 9 may stand here\n"),
         Day::LARGE => say(b"number too large for a book: 536870911 is the most\n"),
-        Day::MORE => say(b"too much on this line: free and pace have one number, a row has four\n"),
+        Day::MORE => say(
+            b"too much on this line: free and pace have one number, a row has four, or three and class with one\n",
+        ),
         Day::FREE_AGAIN => say(b"free is there already\n"),
         Day::PACE_AGAIN => say(b"pace is there already\n"),
         Day::PACE_FIRST => say(b"pace comes before free\n"),

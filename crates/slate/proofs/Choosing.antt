@@ -21,7 +21,7 @@ use Rattle.planner.specs.Promise.{plansIn, listedPlans}
 use Rattle.planner.proofs.CallLaws.{list-refused, list-is}
 use Rattle.planner.proofs.Memory.{lent-memory}
 use Rattle.book.specs.declared.Tested.the-variants.{Passed}
-use Rattle.planner.proofs.Promise.{calls-keep-promise, book-accepted}
+use Rattle.planner.proofs.Promise.{calls-keep-promise, definitions-hold}
 use Rattle.slate.specs.Input.{wordsIn}
 use Rattle.slate.specs.Printing.{odd, prints, Opens}
 use Rattle.slate.specs.Parts.{Heard}
@@ -46,7 +46,7 @@ module _ (input book b after : List ℕ) (e : book ≡ wordsIn 1028 input) (o : 
       let j : p ≡ q = cc in
       rw (printed, r, i, j) refl
   turned (accepted free rows) r n p g =
-      let few = book-accepted book free rows r .few-rows in
+      let few = definitions-hold .book-accepted book free rows r .few-rows in
       let a : listed.Refused n p ≡ listed.Plans (length (plansOf rows free)) = ap (λ (y : Outcome Listed). y .answer) (g ∙ list-is book free rows r b (omega (arith, few .1))) in
       never (cc)
 

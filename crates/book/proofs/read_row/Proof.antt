@@ -19,7 +19,8 @@ row-of-requires : tie.Need-row-of-requires
 row-of-requires c κs =
     let r = c .before .before in
     let s = r .before .before in
-    (row-fits (take (s .args .count) (s .args .numbers .now)) (s .args .place) (now (s .args .rest)) (sym (r .row-tests .ensures) ∙ c .enum-told .given .1) .pages .most, s .pre .3, s .pre .4)
+    let f = row-fits (take (s .args .count) (s .args .numbers .now)) (s .args .place) (now (s .args .rest)) (sym (r .row-tests .ensures) ∙ c .enum-told .given .1) in
+    (f .due .class, f .release .most, f .pages .most, s .pre .3, s .pre .4)
 
 enum-known-tested : tie.Need-enum-known-tested
 enum-known-tested c = search needs

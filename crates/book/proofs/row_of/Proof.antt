@@ -1,6 +1,13 @@
 -- `row_of` meets its contract: each field is the definition's.
 -- Assumes nothing.
+use denote.Ref.{now}
+use native.Mathlib.Omega.{arith}
+use mathlib.Core.Path.{_≡_, sym, subst}
 use borrow.Author.Needs.{needs}
+use Rattle.book.specs.Words.{value, word}
+use Rattle.book.specs.Due.{classOf, Margined}
+use Rattle.book.specs.Rows.{lengthOf}
+use Rattle.book.proofs.Whole.{length-most}
 use Rattle.book.proofs.row_of.Statement.{statement}
 use Rattle.book.proofs.row_of.Tie as tie
 
@@ -25,8 +32,22 @@ value-of-requires-3 c κs = search needs
 length-of-requires : tie.Need-length-of-requires
 length-of-requires c κs = search needs
 
+class-of-requires : tie.Need-class-of-requires
+class-of-requires c κs = search needs
+
+word-at-requires-4 : tie.Need-word-at-requires-4
+word-at-requires-4 c κs = search needs
+
+value-of-requires-4 : tie.Need-value-of-requires-4
+value-of-requires-4 c κs = search needs
+
 due-of-requires : tie.Need-due-of-requires
-due-of-requires c κs = search needs
+due-of-requires c κs =
+    let s = c .before .before .before .before .before .before .before .before .before .before .before in
+    let class : c .before .before .class-of .result ≡ classOf (now (s .args .rest)) = cc in
+    let release : c .before .before .before .before .before .before .value-of2 .result ≡ value (word (now (s .args .rest)) 1) = cc in
+    let length : c .before .before .before .length-of .result ≡ lengthOf (value (word (now (s .args .rest)) 2)) (s .args .pace) = cc in
+    (subst Margined (sym class) (s .pre .0), omega (arith, s .pre .1), rw length (length-most (value (word (now (s .args .rest)) 2)) (s .args .pace) (s .pre .2) (s .pre .3)))
 
 returns : tie.Need-returns
 returns c = cc
@@ -42,5 +63,8 @@ row-of-spec =
     word-at-requires-3
     value-of-requires-3
     length-of-requires
+    class-of-requires
+    word-at-requires-4
+    value-of-requires-4
     due-of-requires
     returns)

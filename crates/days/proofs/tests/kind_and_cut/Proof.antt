@@ -7,10 +7,10 @@ use Rattle.days.proofs.tests.kind_and_cut.Statement.{statement}
 use Rattle.days.proofs.tests.kind_and_cut.Tie as tie
 
 abbrev Inv-loop : tie.InvT-loop
-Inv-loop base place n₀ n = n ≤ length base
+Inv-loop base place w n₀ n = n ≤ length base
 
 abbrev μ-loop : tie.MeasureT-loop
-μ-loop base place n₀ n = length base - n
+μ-loop base place w n₀ n = length base - n
 
 slice-aggregate-after : tie.Need-slice-aggregate-after Inv-loop μ-loop
 slice-aggregate-after c = search needs

@@ -15,6 +15,15 @@ abbrev μ-loop : tie.MeasureT-loop
 loop-holds : tie.Need-loop-holds Inv-loop μ-loop
 loop-holds c = search needs
 
+mul-of-next-kind : tie.Need-mul-of-next-kind Inv-loop μ-loop
+mul-of-next-kind c = search needs
+
+shared-slice-read-of-next-kind : tie.Need-shared-slice-read-of-next-kind Inv-loop μ-loop
+shared-slice-read-of-next-kind c = search needs
+
+of-next-kind-requires : tie.Need-of-next-kind-requires Inv-loop μ-loop
+of-next-kind-requires c κs = search needs
+
 is-refused-with-requires : tie.Need-is-refused-with-requires Inv-loop μ-loop
 is-refused-with-requires c κs = search needs
 
@@ -43,6 +52,9 @@ kind-count-spec =
     Inv-loop
     μ-loop
     loop-holds
+    mul-of-next-kind
+    shared-slice-read-of-next-kind
+    of-next-kind-requires
     is-refused-with-requires
     one-if-requires
     add-count

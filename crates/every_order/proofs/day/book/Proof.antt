@@ -8,10 +8,10 @@ use Rattle.every_order.proofs.day.book.Statement.{statement}
 use Rattle.every_order.proofs.day.book.Tie as tie
 
 abbrev Inv-loop : tie.InvT-loop
-Inv-loop words₀ release pages due count i₀ words i = (i ≤ count) × (length words ≡ 35)
+Inv-loop words₀ release pages due class count i₀ words i = (i ≤ count) × (length words ≡ 35)
 
 abbrev μ-loop : tie.MeasureT-loop
-μ-loop words₀ release pages due count i₀ words i = count - i
+μ-loop words₀ release pages due class count i₀ words i = count - i
 
 at-most-requires : tie.Need-at-most-requires Inv-loop μ-loop
 at-most-requires c κs = search needs
@@ -91,23 +91,29 @@ mul-words-8 c = search needs
 element-write-words-5 : tie.Need-element-write-words-5 Inv-loop μ-loop
 element-write-words-5 c = search needs
 
+mul-last-word : tie.Need-mul-last-word Inv-loop μ-loop
+mul-last-word c = search needs
+
+array-read-last-word : tie.Need-array-read-last-word Inv-loop μ-loop
+array-read-last-word c = search needs
+
+mul-last-word-2 : tie.Need-mul-last-word-2 Inv-loop μ-loop
+mul-last-word-2 c = search needs
+
+array-read-last-word-2 : tie.Need-array-read-last-word-2 Inv-loop μ-loop
+array-read-last-word-2 c = search needs
+
+last-word-requires : tie.Need-last-word-requires Inv-loop μ-loop
+last-word-requires c κs = search needs
+
 mul-words-9 : tie.Need-mul-words-9 Inv-loop μ-loop
 mul-words-9 c = search needs
-
-array-read-words-3 : tie.Need-array-read-words-3 Inv-loop μ-loop
-array-read-words-3 c = search needs
 
 add-words-9 : tie.Need-add-words-9 Inv-loop μ-loop
 add-words-9 c = search needs
 
 mul-words-10 : tie.Need-mul-words-10 Inv-loop μ-loop
 mul-words-10 c = search needs
-
-add-words-10 : tie.Need-add-words-10 Inv-loop μ-loop
-add-words-10 c = search needs
-
-mul-words-11 : tie.Need-mul-words-11 Inv-loop μ-loop
-mul-words-11 c = search needs
 
 element-write-words-6 : tie.Need-element-write-words-6 Inv-loop μ-loop
 element-write-words-6 c = search needs
@@ -124,17 +130,17 @@ loop-again c = (search needs, simp length-set (search needs))
 cast-words-2 : tie.Need-cast-words-2 Inv-loop μ-loop
 cast-words-2 c = search needs
 
+add-words-10 : tie.Need-add-words-10 Inv-loop μ-loop
+add-words-10 c = search needs
+
+mul-words-11 : tie.Need-mul-words-11 Inv-loop μ-loop
+mul-words-11 c = search needs
+
 add-words-11 : tie.Need-add-words-11 Inv-loop μ-loop
 add-words-11 c = search needs
 
 mul-words-12 : tie.Need-mul-words-12 Inv-loop μ-loop
 mul-words-12 c = search needs
-
-add-words-12 : tie.Need-add-words-12 Inv-loop μ-loop
-add-words-12 c = search needs
-
-mul-words-13 : tie.Need-mul-words-13 Inv-loop μ-loop
-mul-words-13 c = search needs
 
 element-write-words-7 : tie.Need-element-write-words-7 Inv-loop μ-loop
 element-write-words-7 c = search needs
@@ -180,21 +186,23 @@ book-spec =
     add-words-8
     mul-words-8
     element-write-words-5
+    mul-last-word
+    array-read-last-word
+    mul-last-word-2
+    array-read-last-word-2
+    last-word-requires
     mul-words-9
-    array-read-words-3
     add-words-9
     mul-words-10
-    add-words-10
-    mul-words-11
     element-write-words-6
     add-i
     loop-less
     loop-again
     cast-words-2
+    add-words-10
+    mul-words-11
     add-words-11
     mul-words-12
-    add-words-12
-    mul-words-13
     element-write-words-7
     mul-result
     add-result

@@ -6,10 +6,10 @@ use Rattle.every_order.proofs.day.made.Statement.{statement}
 use Rattle.every_order.proofs.day.made.Tie as tie
 
 abbrev Inv-loop : tie.InvT-loop
-Inv-loop n s₀ shape pace count due₀ ready₀ day₀ i₀ s due ready day i = i ≤ count
+Inv-loop n s₀ shape pace class count due₀ ready₀ day₀ i₀ s due ready day i = i ≤ count
 
 abbrev μ-loop : tie.MeasureT-loop
-μ-loop n s₀ shape pace count due₀ ready₀ day₀ i₀ s due ready day i = count - i
+μ-loop n s₀ shape pace class count due₀ ready₀ day₀ i₀ s due ready day i = count - i
 
 add-next : tie.Need-add-next Inv-loop μ-loop
 add-next c = search needs
@@ -22,6 +22,9 @@ next-requires-2 c κs = search needs
 
 pace-of-requires : tie.Need-pace-of-requires Inv-loop μ-loop
 pace-of-requires c κs = search needs
+
+class-of-requires : tie.Need-class-of-requires Inv-loop μ-loop
+class-of-requires c κs = search needs
 
 cast-at-most : tie.Need-cast-at-most Inv-loop μ-loop
 cast-at-most c = search needs
@@ -107,6 +110,12 @@ mul-day-4 c = search needs
 element-write-day-4 : tie.Need-element-write-day-4 Inv-loop μ-loop
 element-write-day-4 c = search needs
 
+mul-day-5 : tie.Need-mul-day-5 Inv-loop μ-loop
+mul-day-5 c = search needs
+
+element-write-day-5 : tie.Need-element-write-day-5 Inv-loop μ-loop
+element-write-day-5 c = search needs
+
 add-i : tie.Need-add-i Inv-loop μ-loop
 add-i c = search needs
 
@@ -129,6 +138,7 @@ made-spec =
     next-requires
     next-requires-2
     pace-of-requires
+    class-of-requires
     cast-at-most
     add-at-most
     at-most-requires
@@ -157,6 +167,8 @@ made-spec =
     element-write-day-3
     mul-day-4
     element-write-day-4
+    mul-day-5
+    element-write-day-5
     add-i
     loop-less
     loop-again

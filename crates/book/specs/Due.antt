@@ -1,0 +1,49 @@
+-- The due of a row: told by a due word, or worked out from the turnaround class that stands in its place.
+-- Rests on: Words. As there, `ws` is the book from `place` on, here from the number word of a row: its word 3 is the one.
+use Prim.Native.Nat.{ℕ, _+_, _<_}
+use mathlib.Core.Bool.{cond}
+use mathlib.Core.List.{List, [], _∷_}
+use lib.Dec.{eqb}
+use lib.ListN.{getD}
+use Rattle.schedule.specs.declared.Class.{Class}
+use Rattle.schedule.specs.declared.Class.the-variants.{None, Of}
+use Rattle.book.specs.declared.Tested.{Tested}
+use Rattle.book.specs.Words.{kind, value, word, wordTests, openWords}
+
+-- The margins of the classes 0 to 7, in minutes, and the margin of one class.
+abbrev pub margins : List ℕ
+margins = 60 ∷ 120 ∷ 480 ∷ 1440 ∷ 4320 ∷ 10080 ∷ 20160 ∷ 43200 ∷ []
+
+abbrev pub margin : ℕ → ℕ
+margin c = getD margins c 0
+
+-- The class of a row: the value of a word of kind 0 in the place of the due word. A word of another kind is no class.
+unfoldable pub classOf : List ℕ → Class
+classOf ws = cond (eqb (kind (word ws 3)) 0) (Of (value (word ws 3))) None
+
+-- The tests of that word: of a class word, kind 0, 0 to 7; of a due word, kind 6, 0 to 20,000,000. So another kind is refused 2. (Past the
+-- end of the book there is no word of either kind: cut.)
+unfoldable pub testsBy : Class → ℕ → List ℕ → Tested
+testsBy None place ws = wordTests 6 0 20000000 place ws 3
+testsBy (Of c) place ws = wordTests 0 0 7 place ws 3
+
+abbrev pub dueTests : ℕ → List ℕ → Tested
+dueTests place ws = testsBy (classOf ws) place ws
+
+-- A class that has a margin.
+abbrev pub Margined : Class → Type 0
+Margined None = Unit {0}
+Margined (Of c) = c < 8
+
+-- Due: the value of the due word; of a class, release plus length plus margin.
+unfoldable pub dueBy : Class → (release length told : ℕ) → ℕ
+dueBy None release length told = told
+dueBy (Of c) release length told = release + length + margin c
+
+abbrev pub dueOf : (release length : ℕ) → List ℕ → ℕ
+dueOf release length ws = dueBy (classOf ws) release length (value (word ws 3))
+
+-- Opens every definition of this file and of those that it rests on.
+unfoldable pub openDue : Unit {0}
+unfolding openWords classOf testsBy dueBy
+openDue = tt
