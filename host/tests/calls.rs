@@ -5,38 +5,26 @@
 
 mod common;
 
-use common::{calls, compare, Call, Case, Effort};
+use common::{calls, compare, each_call, Call, Case, Effort};
 use jelvaksna::books::{self, Draft, Rng};
 use jelvaksna::model::{Day, MAX_ROWS};
 use jelvaksna::{linked, word, Pair, Refusal};
 
-/// Makes books and compares all the calls that suit them. A good part of the accepted ones, if they
-/// are more than a few, has class rows.
 fn books(
     test: &'static str,
     count: u64,
     effort: Effort,
-    mut make: impl FnMut(&mut Rng, u64) -> Vec<u32>,
+    make: impl FnMut(&mut Rng, u64) -> Vec<u32>,
 ) {
-    let (mut made, mut accepted, mut classed, mut plans) = (0, 0, 0, 0);
-    for i in 0..count {
-        let case = Case::new(test, i);
-        let mut rng = case.rng();
-        let book = make(&mut rng, i);
-        let day = Day::read(&book);
-        for call in calls(&mut rng, &day, effort) {
-            compare(case, &book, &day, &call);
-            made += 1;
-        }
-        if let Ok(day) = &day {
-            accepted += 1;
-            classed += usize::from(day.has_classes());
-            plans = plans.max(day.list().len());
-        }
+    each_call(test, count, effort, make, compare);
+}
+
+/// All the calls that suit one book.
+fn compare_all(case: Case, book: &[u32], effort: Effort) {
+    let day = Day::read(book);
+    for call in calls(&mut case.rng(), &day, effort) {
+        compare(case, book, &day, &call);
     }
-    let seed = books::seed();
-    println!("{test}: seed {seed:#x}, {count} books, {accepted} accepted, {classed} with class rows, at most {plans} plans, {made} calls");
-    assert!(accepted < 20 || classed > accepted / 6, "{test}");
 }
 
 #[test]
@@ -147,11 +135,7 @@ fn every_place() {
     ]);
     let mut made = 0;
     let mut check = |book: &[u32]| {
-        let case = Case::new(test, made);
-        let day = Day::read(book);
-        for call in calls(&mut case.rng(), &day, Effort::Few) {
-            compare(case, book, &day, &call);
-        }
+        compare_all(Case::new(test, made), book, Effort::Few);
         made += 1;
     };
     for day in [dues, classes, between] {
@@ -229,12 +213,7 @@ fn every_class() {
                 days.push(day);
             }
             for day in days {
-                let case = Case::new(test, made);
-                let book = day.words();
-                let day = Day::read(&book);
-                for call in calls(&mut case.rng(), &day, Effort::All) {
-                    compare(case, &book, &day, &call);
-                }
+                compare_all(Case::new(test, made), &day.words(), Effort::All);
                 made += 1;
             }
             let plans = linked::plans(&one.words()).unwrap();
@@ -299,9 +278,7 @@ fn worked_days() {
         let case = Case::new("worked days", i as u64);
         let book = draft.words();
         let day = Day::read(&book);
-        for call in calls(&mut case.rng(), &day, Effort::All) {
-            compare(case, &book, &day, &call);
-        }
+        compare_all(case, &book, Effort::All);
         for bound in -3..20 {
             for len in 0..5 {
                 compare(case, &book, &day, &Call::OrderForBound { bound, len });

@@ -2,9 +2,9 @@
 
 mod common;
 
-use common::{calls, compare_fenced, fence::Fences, Case, Effort};
+use common::{compare_fenced, each_call, fence::Fences, Effort};
 use jelvaksna::books::{self, Rng};
-use jelvaksna::model::{Day, MAX_ROWS};
+use jelvaksna::model::MAX_ROWS;
 
 fn fenced(
     test: &'static str,
@@ -13,19 +13,9 @@ fn fenced(
     make: impl Fn(&mut Rng, u64) -> Vec<u32>,
 ) {
     let mut fences = Fences::new();
-    let mut made = 0;
-    for i in 0..count {
-        let case = Case::new(test, i);
-        let mut rng = case.rng();
-        let book = make(&mut rng, i);
-        let day = Day::read(&book);
-        for call in calls(&mut rng, &day, effort) {
-            compare_fenced(case, &book, &day, &call, &mut fences);
-            made += 2;
-        }
-    }
-    let seed = books::seed();
-    println!("fenced {test}: seed {seed:#x}, {count} books, {made} calls");
+    each_call(test, count, effort, make, |case, book, day, call| {
+        compare_fenced(case, book, day, call, &mut fences)
+    });
 }
 
 #[test]

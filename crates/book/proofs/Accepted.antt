@@ -96,7 +96,7 @@ accepted-book ws free rows e =
       some-row = w .some;
       few-rows = w .few;
       ranged = λ i m. let n = count-range 1 (length rows) m in let r = by-number rows (w .ranged) i (n .0) (n .1) in (r .release, r .least, r .most, r .due);
-      classes = λ i c m. let n = count-range 1 (length rows) m in by-number rows (w .ranged) i (n .0) (n .1) .class c;
+      class-dues = λ i m. let n = count-range 1 (length rows) m in by-number rows (w .ranged) i (n .0) (n .1) .class;
       limits = limited rows (w .ranged);
     }
 

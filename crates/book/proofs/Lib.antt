@@ -9,4 +9,3 @@ pub mod Places
 pub mod Accepted
 pub mod OneClass
 pub mod Numbered
-pub mod Examples

@@ -18,7 +18,7 @@ use Rattle.book.specs.declared.Tested.{Tested}
 use Rattle.book.specs.declared.Tested.the-variants.{Passed, Refused}
 use Rattle.book.specs.Refusals.{byTail}
 use Rattle.book.specs.Words.{kind, value, word}
-use Rattle.book.specs.Due.{margin, classOf, Margined, dueBy}
+use Rattle.book.specs.Due.{margin, classOf, Margined, dueBy, ClassDue}
 use Rattle.book.specs.Rows.{Contents, refused, accepted, refusedOr, numbersOf, rowTests, lengthOf, rowOf, endStands, endTests, readRows}
 use Rattle.book.specs.Order.{orderTests}
 use Rattle.book.specs.Book.{headTests, inOrder, readWords, readBook}
@@ -43,7 +43,7 @@ pub record RowRanged (r : Row) : Type 0 where
   pub least : 1 ≤ r .length
   pub most : r .length ≤ 30000
   pub due : r .due ≤ 20000000
-  pub class : (c : ℕ) → r .class ≡ Of c → (c < 8) × (r .due ≡ r .release + r .length + margin c)
+  pub class : ClassDue r
 
 abbrev pub AllRanged : List Row → Type 0
 AllRanged rs = (i : ℕ) → i < length rs → RowRanged (getD rs i noRow)

@@ -1,14 +1,12 @@
 -- What is known of an accepted book: its rows agree, and every number is in its range. The proof is `accepted-book`, in proofs/Accepted.antt.
 -- Rests on: Due, the schedule's Rows and Promise.
-use Prim.Native.Nat.{ℕ, _+_, _≤_, _<_}
-use mathlib.Core.Path.{_≡_}
+use Prim.Native.Nat.{ℕ, _≤_, _<_}
 use mathlib.Core.List.{List, List·Memᴰ}
 use lib.ListN.{length}
 use Rattle.schedule.specs.declared.Row.{Row}
-use Rattle.schedule.specs.declared.Class.the-variants.{Of}
 use Rattle.schedule.specs.Rows.{row, job, allRows}
 use Rattle.schedule.specs.Promise.{Agreeing}
-use Rattle.book.specs.Due.{margin}
+use Rattle.book.specs.Due.{ClassDue}
 
 pub record AcceptedBook (free : ℕ) (rows : List Row) : Type 0 where
   -- Of two rows the one due later has no more spare.
@@ -21,7 +19,7 @@ pub record AcceptedBook (free : ℕ) (rows : List Row) : Type 0 where
   -- Release, length and due of each row. Length lies between 1 and 30,000.
   pub ranged : (i : ℕ) → List·Memᴰ i (allRows rows) →
       (row rows i .release ≤ 10000000) × (1 ≤ row rows i .length) × (row rows i .length ≤ 30000) × (row rows i .due ≤ 20000000)
-  -- A row of a class has one of the classes 0 to 7, and is due its length and the class's margin after its release.
-  pub classes : (i c : ℕ) → List·Memᴰ i (allRows rows) → row rows i .class ≡ Of c → (c < 8) × (row rows i .due ≡ row rows i .release + row rows i .length + margin c)
+  -- A row that has a class is due by it.
+  pub class-dues : (i : ℕ) → List·Memᴰ i (allRows rows) → ClassDue (row rows i)
   -- The same limits for every number, also one that no row has.
   pub limits : (i : ℕ) → (row rows i .release ≤ 10000000) × (row rows i .length ≤ 30000) × (row rows i .due ≤ 20000000)

@@ -2,9 +2,11 @@
 -- Rests on: Words. As there, `ws` is the book from `place` on, here from the number word of a row: its word 3 is the one.
 use Prim.Native.Nat.{ℕ, _+_, _<_}
 use mathlib.Core.Bool.{cond}
+use mathlib.Core.Path.{_≡_}
 use mathlib.Core.List.{List, [], _∷_}
 use lib.Dec.{eqb}
 use lib.ListN.{getD}
+use Rattle.schedule.specs.declared.Row.{Row}
 use Rattle.schedule.specs.declared.Class.{Class}
 use Rattle.schedule.specs.declared.Class.the-variants.{None, Of}
 use Rattle.book.specs.declared.Tested.{Tested}
@@ -42,6 +44,10 @@ dueBy (Of c) release length told = release + length + margin c
 
 abbrev pub dueOf : (release length : ℕ) → List ℕ → ℕ
 dueOf release length ws = dueBy (classOf ws) release length (value (word ws 3))
+
+-- The class of a row of the table is one of 0 to 7, and the row is due its length and the class's margin after its release.
+abbrev pub ClassDue : Row → Type 0
+ClassDue r = (c : ℕ) → r .class ≡ Of c → (c < 8) × (r .due ≡ r .release + r .length + margin c)
 
 -- Opens every definition of this file and of those that it rests on.
 unfoldable pub openDue : Unit {0}

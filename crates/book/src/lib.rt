@@ -106,7 +106,7 @@ impl Table {
 }
 
 // One test: where it is true, the refusal.
-pub fn refuse_if(test: bool, number: u32, place: usize) -> Tested
+fn refuse_if(test: bool, number: u32, place: usize) -> Tested
     ensures { λ r. ⌜ r ≡ refuseIf test number place ⌝ }
 {
     if test {
@@ -117,7 +117,7 @@ pub fn refuse_if(test: bool, number: u32, place: usize) -> Tested
 }
 
 // Tests in sequence: the first refusal counts.
-pub fn then(first: Tested, next: Tested) -> Tested
+fn then(first: Tested, next: Tested) -> Tested
     ensures { λ r. ⌜ r ≡ (first then next) ⌝ }
 {
     match first {

@@ -287,7 +287,7 @@ pub fn order_for(
 }
 
 // The pair of the order for a bound.
-pub fn pair_for(
+fn pair_for(
     release: &[u32; 257],
     length: &[u32; 257],
     due: &[u32; 257],

@@ -120,14 +120,13 @@ pub fn words() {
     kinds_and_cuts(make::first(&book, n));
 }
 
-// The same at each word of a book with classes.
+// Cut, kind, range, twice and count at each word of a book with classes.
 pub fn classes() {
     let mut book = [0u32; ROOM];
     let n = make::book(&mut book, 0, 60, &[1, 1, CLASS, 0, 10, 70, 20, 5, CLASS]);
     cuts(make::first(&book, n));
     kinds(make::first(&book, n));
     values(make::first(&book, n), &[0, 1, 2, 6, 7, 8, 9, 536_870_911]);
-    kinds_and_cuts(make::first(&book, n));
 }
 
 // How often a cut at a place is refused 1 there.

@@ -51,7 +51,7 @@ module _ {free : ℕ} {rows : List Row} (a : AcceptedBook free rows) where
   in-limits = record {
     few-rows = (a .some-row, a .few-rows);
     ranges = in-range 10000000 1 30000 20000000 256 (job rows) free (allRows rows) (accepted-ranged a) some-rows;
-    class-dues = a .classes;
+    class-dues = a .class-dues;
   }
 
 -- Property 2.

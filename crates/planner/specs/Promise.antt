@@ -4,7 +4,7 @@
 -- The contract of each offered function says that its answer and its buffer at exit are those of its call in Calls (list, order_for_bound,
 -- order_of_plan, verdict) or in the book's specs (row_place, row_words), whatever it is lent and told. So what is said here of the calls holds
 -- of the functions. Rests on: Calls, Answers, the book, the schedule.
-use Prim.Native.Nat.{ℕ, zero, suc, _+_, _-_, _*_, _≤_, _<_}
+use Prim.Native.Nat.{ℕ, zero, suc, _-_, _*_, _≤_}
 use mathlib.Core.Bool.{cond, not}
 use mathlib.Core.Path.{_≡_}
 use mathlib.Core.List.{List, [], _∷_, List·Memᴰ}
@@ -15,13 +15,12 @@ use lib.ListN.{length}
 use lib.IntN.{ℤ, pos, negsuc}
 use lib.Signed.{_≤ℤ_}
 use Rattle.schedule.specs.declared.Row.{Row}
-use Rattle.schedule.specs.declared.Class.the-variants.{Of}
 use Rattle.schedule.specs.Rows.{row, job, allRows}
 use Rattle.schedule.specs.Desk.{Pair, OrderOf, Attains, pairOf, endOf}
 use Rattle.schedule.specs.Plans.{beats}
 use Rattle.schedule.specs.Promise.{Rising}
 use Rattle.book.specs.declared.Found.the-variants as found
-use Rattle.book.specs.Due.{margin}
+use Rattle.book.specs.Due.{ClassDue}
 use Rattle.book.specs.Rows.{accepted}
 use Rattle.book.specs.Book.{readBook, rowPlace, rowWords}
 use Rattle.book.specs.OneClass.{OneClass}
@@ -52,7 +51,7 @@ pub record BookAccepted (free : ℕ) (rows : List Row) : Type 0 where
   pub few-rows : (1 ≤ length rows) × (length rows ≤ 256)
   pub ranges : (order : List ℕ) → OrderOf (allRows rows) order →
       (endOf (job rows) free order ≤ 17680000) × (pairOf (job rows) free order .late ≤ℤ pos 17680000) × (negsuc 19999998 ≤ℤ pairOf (job rows) free order .late)
-  pub class-dues : (i c : ℕ) → List·Memᴰ i (allRows rows) → row rows i .class ≡ Of c → (c < 8) × (row rows i .due ≡ row rows i .release + row rows i .length + margin c)
+  pub class-dues : (i : ℕ) → List·Memᴰ i (allRows rows) → ClassDue (row rows i)
 
 pub record DefinitionsHold : Type 0 where
   pub book-accepted : (book : List ℕ) (free : ℕ) (rows : List Row) → readBook book ≡ accepted free rows → BookAccepted free rows

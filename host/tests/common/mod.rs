@@ -209,6 +209,36 @@ pub enum Effort {
     All,
 }
 
+/// Makes books and hands each call that suits them to `compare`. A good part of the accepted books,
+/// if they are more than a few, has class rows.
+pub fn each_call(
+    test: &'static str,
+    count: u64,
+    effort: Effort,
+    mut make: impl FnMut(&mut Rng, u64) -> Vec<u32>,
+    mut compare: impl FnMut(Case, &[u32], &Result<Day, Refusal>, &Call),
+) {
+    let (mut made, mut accepted, mut classed, mut plans) = (0, 0, 0, 0);
+    for i in 0..count {
+        let case = Case::new(test, i);
+        let mut rng = case.rng();
+        let book = make(&mut rng, i);
+        let day = Day::read(&book);
+        for call in calls(&mut rng, &day, effort) {
+            compare(case, &book, &day, &call);
+            made += 1;
+        }
+        if let Ok(day) = &day {
+            accepted += 1;
+            classed += usize::from(day.has_classes());
+            plans = plans.max(day.list().len());
+        }
+    }
+    let seed = books::seed();
+    println!("{test}: seed {seed:#x}, {count} books, {accepted} accepted, {classed} with class rows, at most {plans} plans, {made} calls");
+    assert!(accepted < 20 || classed > accepted / 6, "{test}");
+}
+
 /// Calls that suit a book: buffers that fit, that are one too short, longer or empty, bounds around
 /// the plans' latenesses, plans and rows that are there or not, postings good and bad.
 pub fn calls(rng: &mut Rng, day: &Result<Day, Refusal>, effort: Effort) -> Vec<Call> {
