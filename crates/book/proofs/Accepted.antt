@@ -13,6 +13,7 @@ use borrow.Author.Tests.{ltb-true, ltb-false}
 use Rattle.schedule.specs.declared.Row.{Row}
 use Rattle.schedule.specs.Rows.{noRow, row, job, allRows}
 use Rattle.schedule.specs.Ranges.{Ranged}
+use Rattle.schedule.proofs.Tests.{neither}
 use Rattle.schedule.proofs.Numbers.{length-count, count-range}
 use Rattle.book.specs.declared.Tested.the-variants.{Passed}
 use Rattle.book.specs.Refusals.{byDisorder, refuseIf}
@@ -21,7 +22,7 @@ use Rattle.book.specs.Order.{spare, disordered, orderTests}
 use Rattle.book.specs.Book.{readBook}
 use Rattle.book.specs.Accepted.{AcceptedBook}
 use Rattle.book.proofs.Signed.{ltZ-sums}
-use Rattle.book.proofs.Tests.{or-left, or-right, then-left, then-right, not-refused}
+use Rattle.book.proofs.Tests.{then-left, then-right, not-refused}
 use Rattle.book.proofs.Whole.{RowRanged, AllRanged, whole, ordered}
 
 -- From row r to a row s further down due does not fall and spare does not rise.
@@ -32,8 +33,9 @@ record Follows (r s : Row) : Type 0 where
 next : (r s : Row) → disordered r s ≡ false → Follows r s
 unfolding disordered
 next r s e =
-    let l = ltb-false (s .due) (r .due) (or-left (ltb (s .due) (r .due)) (ltZ (spare r) (spare s)) e) in
-    let z = sym (ltZ-sums (r .due) (r .release + r .length) (s .due) (s .release + s .length)) ∙ or-right (ltb (s .due) (r .due)) (ltZ (spare r) (spare s)) e in
+    let n = neither (ltb (s .due) (r .due)) (ltZ (spare r) (spare s)) e in
+    let l = ltb-false (s .due) (r .due) (n .0) in
+    let z = sym (ltZ-sums (r .due) (r .release + r .length) (s .due) (s .release + s .length)) ∙ n .1 in
     let m = ltb-false (r .due + (s .release + s .length)) (s .due + (r .release + r .length)) z in
     record { due = l; spare = omega arith }
 

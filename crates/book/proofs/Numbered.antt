@@ -3,7 +3,7 @@
 use Prim.Native.Nat.{ℕ, zero, suc, _+_, _≤_}
 use native.Mathlib.Omega.{arith}
 use mathlib.Core.Bool.{Bool, true, false}
-use mathlib.Core.Path.{_≡_, refl, subst}
+use mathlib.Core.Path.{_≡_, subst}
 use mathlib.Core.List.{List, [], _∷_, _++_}
 use lib.ListN.{length, drop}
 use Rattle.schedule.specs.declared.Row.{Row}
@@ -17,28 +17,24 @@ use Rattle.book.specs.Due.{classOf, testsBy}
 use Rattle.book.specs.Rows.{Contents, refused, accepted, refusedOr, numbersOf, numberTests, rowTests, rowOf, endStands, endTests, readRows}
 use Rattle.book.specs.Order.{orderTests}
 use Rattle.book.specs.Book.{headTests, inOrder, readWords, readBook}
+use Rattle.book.proofs.Tests.{Says, if-says, then-says}
 
 -- The number of a refusal, of tests and of what a book gives.
 abbrev InTable : ℕ → Type 0
 InTable n = (1 ≤ n) × (n ≤ 8)
 
 abbrev Numbered : Tested → Type 0
-Numbered Passed = Unit {0}
-Numbered (Refused n p) = InTable n
+Numbered = Says InTable
 
 abbrev NumberedBook : Contents → Type 0
 NumberedBook (refused n p) = InTable n
 NumberedBook (accepted free rows) = Unit {0}
 
 by-test : {n : ℕ} (b : Bool) (p : ℕ) → InTable n → Numbered (refuseIf b n p)
-unfolding refuseIf
-by-test true p h = h
-by-test false p h = tt
+by-test {n} b p = if-says InTable n b p
 
 by-either : (a b : Tested) → Numbered a → Numbered b → Numbered (a then b)
-unfolding _then_
-by-either Passed b h k = k
-by-either (Refused n p) b h k = h
+by-either = then-says InTable
 
 by-contents : (o : Tested) (c : Contents) → Numbered o → NumberedBook c → NumberedBook (refusedOr o c)
 by-contents Passed c h k = k

@@ -1,13 +1,11 @@
 -- A book of one class whose dues do not fall from row to row never meets disorder: each row's spare is the class's margin.
 -- Assumes nothing.
-use Prim.Native.Nat.{ℕ, zero, suc, _+_, _≤_, _<_}
+use Prim.Native.Nat.{ℕ, suc, _+_, _≤_, _<_}
 use native.Mathlib.Omega.{arith}
-use mathlib.Core.Bool.{false, _||_}
-use mathlib.Core.Path.{_≡_, refl, sym, ap, _∙_}
+use mathlib.Core.Bool.{false}
+use mathlib.Core.Path.{_≡_, refl}
 use mathlib.Core.List.{List, [], _∷_, List·Memᴰ}
-use lib.Dec.{ltb}
 use lib.ListN.{length, getD}
-use lib.Signed.{ltZ}
 use borrow.Author.Tests.{le-ltb}
 use Rattle.schedule.specs.declared.Row.{Row}
 use Rattle.schedule.specs.declared.Class.the-variants.{Of}
@@ -15,8 +13,7 @@ use Rattle.schedule.specs.Rows.{noRow, allRows}
 use Rattle.schedule.proofs.Numbers.{from-mem}
 use Rattle.book.specs.declared.Tested.the-variants.{Passed}
 use Rattle.book.specs.Refusals.{refuseIf, _then_}
-use Rattle.book.specs.Rows.{accepted}
-use Rattle.book.specs.Order.{spare, disordered, orderTests}
+use Rattle.book.specs.Order.{disordered, orderTests}
 use Rattle.book.specs.Book.{inOrder, readBook}
 use Rattle.book.specs.OneClass.{OneClass}
 use Rattle.book.proofs.Signed.{ltZ-sums}

@@ -8,12 +8,13 @@ use mathlib.Core.List.{List, []}
 use lib.Dec.{ltb, eqb}
 use lib.ListN.{length, take, drop}
 use borrow.Author.Tests.{ltb-false, eqb-false}
+use Rattle.schedule.proofs.Tests.{neither}
 use Rattle.book.specs.declared.Tested.the-variants.{Passed, Refused}
 use Rattle.book.specs.declared.Found.the-variants as found
 use Rattle.book.specs.Refusals.{byUnlisted}
 use Rattle.book.specs.Rows.{Contents, refused, accepted}
 use Rattle.book.specs.Book.{readBook, tableOf, readingOf, placeOf, placeIn, rowPlace, rowWords}
-use Rattle.book.proofs.Tests.{never, or-left, or-right}
+use Rattle.book.proofs.Tests.{never}
 use Rattle.book.proofs.Whole.{whole}
 
 -- The book is refused; it has no row of that number; it has one.
@@ -43,8 +44,8 @@ inside book k a e = go (readBook book) refl e
         found.At a ≡ cond b (found.Refused byUnlisted count) (found.At (placeOf k)) → a + 4 ≤ length book
     listed count true t w e = never (cc)
     listed count false t w e =
-        let z : k ≡ 0 → ⊥ = eqb-false k 0 (or-left (eqb k 0) (ltb count k) t) in
-        let l : k ≤ count = ltb-false count k (or-right (eqb k 0) (ltb count k) t) in
+        let z : k ≡ 0 → ⊥ = eqb-false k 0 (neither (eqb k 0) (ltb count k) t .0) in
+        let l : k ≤ count = ltb-false count k (neither (eqb k 0) (ltb count k) t .1) in
         let p : a ≡ placeOf k = cc in
         omega arith
 

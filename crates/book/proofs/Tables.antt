@@ -27,11 +27,7 @@ rows-length t h w = omega (arith, length-take (t .count) (t .rows))
 pub row-at : (t : Table) (i : ℕ) → i < t .count → getD (tableRows t) i noRow ≡ getD (t .rows) i noRow
 row-at t i h = getD-take (t .count) (t .rows) i noRow h
 
--- The table of some rows: their count, 256 places, and the rows back again.
-pub table-count : (free : ℕ) (rows : List Row) → tableOf free rows .count ≡ length rows
-unfolding tableOf
-table-count free rows = refl
-
+-- The table of some rows: 256 places, and the rows back again.
 pub table-places : (free : ℕ) (rows : List Row) → length rows ≤ 256 → length (tableOf free rows .rows) ≡ 256
 unfolding tableOf
 table-places free rows h = omega (arith, length-append rows (replicate (256 - length rows) noRow), length-replicate (256 - length rows) noRow)
@@ -40,11 +36,7 @@ pub table-rows : (free : ℕ) (rows : List Row) → tableRows (tableOf free rows
 unfolding tableOf
 table-rows free rows = take-append-seam rows (replicate (256 - length rows) noRow)
 
--- The reading of an accepted book.
-pub reading-table : (free : ℕ) (rows : List Row) → readingOf (accepted free rows) .table ≡ tableOf free rows
-unfolding readingOf
-reading-table free rows = refl
-
+-- What the reader answers after the last test.
 pub settled-is : (o : Tested) (free : ℕ) (t : Table) → t ≡ tableOf free (tableRows t) → settledOf o t ≡ readingOf (refusedOr o (accepted free (tableRows t)))
 unfolding readingOf
 settled-is Passed free t e = ap (λ (u : Table). record { outcome = Passed; table = u }) e

@@ -2,14 +2,15 @@
 -- Assumes nothing.
 use Prim.Native.Nat.{ℕ, zero, suc, _+_, _≤_, _<_}
 use native.Mathlib.Omega.{arith}
-use mathlib.Core.Bool.{Bool, true, false, cond, _&&_, _||_}
+use mathlib.Core.Bool.{Bool, true, false, not, cond, _&&_}
 use mathlib.Core.Path.{_≡_, refl}
 use mathlib.Core.List.{List, [], _∷_}
-use lib.Dec.{leb, ltb, eqb}
+use lib.Dec.{T, leb, ltb, eqb}
 use lib.ListN.{length, getD}
 use borrow.Author.Tests.{ltb-false, leb-false, leb-true}
 use Rattle.schedule.specs.declared.Class.{Class}
 use Rattle.schedule.specs.declared.Class.the-variants.{None, Of}
+use Rattle.schedule.proofs.Tests.{neither}
 use Rattle.book.specs.declared.Tested.{Tested}
 use Rattle.book.specs.declared.Tested.the-variants.{Passed, Refused}
 use Rattle.book.specs.Refusals.{byRange, refuseIf, _then_}
@@ -23,14 +24,6 @@ pub never : {P : Type 0} → _≡_ {A = ℕ} 0 1 → P
 never e = let x : ⊥ = omega arith in absurd x
 
 -- Bools taken apart.
-pub or-left : (a b : Bool) → (a || b) ≡ false → a ≡ false
-or-left true b e = e
-or-left false b e = refl
-
-pub or-right : (a b : Bool) → (a || b) ≡ false → b ≡ false
-or-right true b e = never (cc)
-or-right false b e = e
-
 pub and-left : (a b : Bool) → (a && b) ≡ true → a ≡ true
 and-left true b e = refl
 and-left false b e = e
@@ -49,6 +42,26 @@ pub then-right : (a b : Tested) → (a then b) ≡ Passed → b ≡ Passed
 unfolding _then_
 then-right Passed b e = e
 then-right (Refused n p) b e = never (cc)
+
+pub then-passes : (t : Bool) (n p : ℕ) (next : Tested) → T (not t) → next ≡ Passed → (refuseIf t n p then next) ≡ Passed
+unfolding refuseIf _then_
+then-passes true n p next h e = absurd h
+then-passes false n p next h e = e
+
+-- What is said of the number of a refusal, where there is one.
+abbrev pub Says : (ℕ → Type 0) → Tested → Type 0
+Says P Passed = Unit {0}
+Says P (Refused n p) = P n
+
+pub if-says : (P : ℕ → Type 0) (n : ℕ) (t : Bool) (p : ℕ) → P n → Says P (refuseIf t n p)
+unfolding refuseIf
+if-says P n true p h = h
+if-says P n false p h = tt
+
+pub then-says : (P : ℕ → Type 0) (a b : Tested) → Says P a → Says P b → Says P (a then b)
+unfolding _then_
+then-says P Passed b h k = k
+then-says P (Refused n p) b h k = h
 
 pub not-refused : (t : Bool) (n p : ℕ) → refuseIf t n p ≡ Passed → t ≡ false
 unfolding refuseIf
@@ -73,8 +86,8 @@ word-fits k lo hi place ws i e =
     let o = not-refused (outside v lo hi) byRange (place + i) (then-right (kindTests k place ws i) range e) in
     record {
       there = kind-there k place ws i (then-left (kindTests k place ws i) range e);
-      least = ltb-false v lo (or-left (ltb v lo) (ltb hi v) o);
-      most = ltb-false hi v (or-right (ltb v lo) (ltb hi v) o);
+      least = ltb-false v lo (neither (ltb v lo) (ltb hi v) o .0);
+      most = ltb-false hi v (neither (ltb v lo) (ltb hi v) o .1);
     }
 
 -- The margins: no entry of a table is above m if the test of all of them says so.

@@ -2,7 +2,7 @@
 -- Assumes nothing.
 use Prim.Native.Nat.{ℕ, _+_, _≤_, _<_}
 use native.Mathlib.Omega.{arith}
-use mathlib.Core.Bool.{Bool, true, false, cond, _||_, _&&_}
+use mathlib.Core.Bool.{Bool, true, false, cond, _&&_}
 use mathlib.Core.Path.{_≡_, refl, sym, ap, _∙_, subst}
 use mathlib.Core.List.{List, [], _∷_, _++_, List·Memᴰ}
 use lib.Dec.{leb, eqb}
@@ -18,6 +18,7 @@ use Rattle.schedule.specs.Offset.{lowered}
 use Rattle.core.specs.declared.State.{State}
 use Rattle.core.specs.Columns.{Limits, left}
 use Rattle.core.specs.Taking.{Going, After, takeRow, takeRows, deskThrough, blockFor}
+use Rattle.schedule.proofs.Tests.{neither}
 use Rattle.schedule.proofs.Orders.{mem-without}
 use Rattle.core.proofs.Marked.{left-row}
 use Rattle.core.proofs.Picks.{pick-mem, decided-is}
@@ -87,10 +88,6 @@ module _ (job : ℕ → Job) where
       pub first-mem : List·Memᴰ i rest
       first-mem = some-row rest torn (first-pick job n small s g i picks)
 
-      left-or : (a b : Bool) → (a || b) ≡ false → a ≡ false
-      left-or true b e = e
-      left-or false b e = refl
-
       module _ (j : ℕ) (next-picks : j ≡ firstPick job now (left (set (s .taken) i true) n)) where
         pub second-is : j ≡ secondPick job now rest
         second-is = second-pick job n small s g i picks first-mem j next-picks
@@ -99,7 +96,7 @@ module _ (job : ℕ → Job) where
         second-some z =
             let second = secondPick job now rest in
             eqb-false second 0
-            (left-or (eqb second 0) (leb (job (firstPick job now rest) .due) (job second .due)) (decided-is job now rest i first-mem (λ k o. left-row (s .taken) n o .low) ∙ torn))
+            (neither (eqb second 0) (leb (job (firstPick job now rest) .due) (job second .due)) (decided-is job now rest i first-mem (λ k o. left-row (s .taken) n o .low) ∙ torn) .0)
             (sym second-is ∙ z)
 
         pub second-mem : List·Memᴰ j rest

@@ -4,7 +4,7 @@ use Prim.Native.Nat.{ℕ, _*_, _≤_}
 use native.Mathlib.Omega.{arith}
 use native.Mathlib.Decide.{decLe}
 use mathlib.Core.Path.{_≡_, refl, sym, ap, _∙_}
-use mathlib.Core.List.{List, [], _∷_}
+use mathlib.Core.List.{List, []}
 use mathlib.Core.Option.{Option, none, some}
 use mathlib.Core.Bool.{Bool, true, false, cond, _||_}
 use lib.Dec.{ltb, eqb}
@@ -36,6 +36,7 @@ use Rattle.planner.specs.Promise.{LentMemory, Property1}
 use Rattle.planner.proofs.Posting.{posting-number}
 use Rattle.planner.proofs.CallLaws.{list-refused, bound-refused, plan-refused, verdict-refused, list-narrow, list-is, bound-is, plan-is, plan-unlisted, verdict-no, verdict-is, order-narrow, order-some, order-none}
 use Rattle.planner.proofs.Promise.{promise}
+use Rattle.planner.proofs.Words.{plan-length}
 
 -- A refusal of the list, of an order; a list; an order.
 list-no : (n p : ℕ) (b : List ℕ) → (1 ≤ n) × (n ≤ 12) → LentMemory listed.Refused (gives (listed.Refused n p) b) b
@@ -70,11 +71,6 @@ order-yes e y ws b h = record {
   same-length = length-written ws b h;
 }
 
-length-plans : (ps : List Pair) → length (planWords ps) ≡ 2 * length ps
-unfolding planWords
-length-plans [] = refl
-length-plans (p ∷ ps) = omega (arith, length-plans ps)
-
 -- An order of accepted rows.
 order-memory : {free : ℕ} {rows : List Row} → AcceptedBook free rows → (y : ℤ) (b : List ℕ) → LentMemory ordered.Refused (orderOutcome rows free y b) b
 order-memory {free} {rows} a y b = step (decLe (length rows) (length b))
@@ -102,7 +98,7 @@ module _ (book : List ℕ) where
       step (yes h) =
           rw (list-is book free rows e b h)
           (list-yes (length (plansOf rows free)) (planWords (plansOf rows free)) b
-          (omega (arith, length-plans (plansOf rows free), promise (accepted-book book free rows e) .few .1, length-count 1 (length rows))))
+          (omega (arith, plan-length (plansOf rows free), promise (accepted-book book free rows e) .few .1, length-count 1 (length rows))))
       step (no h) = rw (list-narrow book free rows e b (omega arith)) (list-no 9 0 b (omega arith, omega arith))
 
   bound-memory : (y : ℤ) (b : List ℕ) (c : Contents) → readBook book ≡ c → LentMemory ordered.Refused (boundCall book y b) b

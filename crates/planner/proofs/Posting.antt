@@ -12,26 +12,12 @@ use Rattle.schedule.specs.Rows.{without, countFrom}
 use Rattle.schedule.specs.Plans.{ordersOf}
 use Rattle.schedule.proofs.Orders.{one, count, count-mem, count-without, length-without, orders-make, orders-cases}
 use Rattle.schedule.proofs.Numbers.{count-range, from-mem, count-once}
-use Rattle.schedule.proofs.Tests.{nor, nor-both}
-use Rattle.book.specs.declared.Tested.{Tested}
+use Rattle.schedule.proofs.Tests.{nor, nor-both, is-false}
 use Rattle.book.specs.declared.Tested.the-variants.{Passed, Refused}
-use Rattle.book.specs.Refusals.{byNotPosting, refuseIf, _then_}
-use Rattle.planner.specs.Posting.{among, entryTests, postingTests}
-
--- Tests that refuse nothing, taken apart.
-abbrev Pass : Tested → Type 0
-Pass Passed = Unit {0}
-Pass (Refused n p) = ⊥
-
-then-passed : (a b : Tested) → Pass (a then b) → Pass a × Pass b
-unfolding _then_
-then-passed Passed b p = (tt, p)
-then-passed (Refused n q) b p = absurd p
-
-if-passed : (b : Bool) (n p : ℕ) → Pass (refuseIf b n p) → T (not b)
-unfolding refuseIf
-if-passed true n p t = t
-if-passed false n p t = tt
+use Rattle.book.specs.Refusals.{byNotPosting, refuseIf}
+use Rattle.book.specs.Rows.{stands}
+use Rattle.book.proofs.Tests.{then-left, then-right, then-passes, not-refused, Says, if-says, then-says}
+use Rattle.planner.specs.Posting.{entryTests, postingTests}
 
 not-eqb : (m n : ℕ) → ¬ (m ≡ n) → T (not (eqb m n))
 not-eqb m n h = not-T (eqb m n) (λ t. h (eqb→eq m n t))
@@ -68,15 +54,15 @@ mem-count {k} (j ∷ js) m = step (List·Memᴰ·cases-cons m) (mem-count js)
 
 -- The rows left over: those from 1 to n that were not seen, each once.
 record Left (n : ℕ) (seen left : List ℕ) : Type 0 where
-  all : (k : ℕ) → 0 < k → k ≤ n → T (not (among k seen)) → List·Memᴰ k left
-  row : (k : ℕ) → List·Memᴰ k left → (0 < k) × (k ≤ n) × T (not (among k seen))
+  all : (k : ℕ) → 0 < k → k ≤ n → T (not (stands k seen)) → List·Memᴰ k left
+  row : (k : ℕ) → List·Memᴰ k left → (0 < k) × (k ≤ n) × T (not (stands k seen))
   once : (k : ℕ) → count k left ≤ 1
 
 left-next : (n : ℕ) (seen left : List ℕ) (i : ℕ) → Left n seen left → List·Memᴰ i left → Left n (i ∷ seen) (without i left)
-unfolding among
+unfolding stands
 left-next n seen left i h m = record {
-  all = λ k p q t. let s = nor-both (eqb k i) (among k seen) t in mem-other i left (eqb-not k i (s .0)) (h .all k p q (s .1));
-  row = λ k g. let r = h .row k (below g) in (r .0, r .1, nor (eqb k i) (among k seen) (not-eqb k i (λ e. gone (subst (λ (x : ℕ). List·Memᴰ x (without i left)) e g))) (r .2));
+  all = λ k p q t. let s = nor-both (eqb k i) (stands k seen) t in mem-other i left (eqb-not k i (s .0)) (h .all k p q (s .1));
+  row = λ k g. let r = h .row k (below g) in (r .0, r .1, nor (eqb k i) (stands k seen) (not-eqb k i (λ e. gone (subst (λ (x : ℕ). List·Memᴰ x (without i left)) e g))) (r .2));
   once = λ k. omega (arith, h .once k, count-without i left m k);
 }
   where
@@ -86,35 +72,26 @@ left-next n seen left i h m = record {
     gone : List·Memᴰ i (without i left) → ⊥
     gone g = omega (arith, count-without i left m i, one-self i, mem-count (without i left) g, h .once i)
 
-entries-order : (n : ℕ) (seen : List ℕ) (place : ℕ) (is left : List ℕ) → Left n seen left → length is ≡ length left → Pass (entryTests n seen place is) →
+entries-order : (n : ℕ) (seen : List ℕ) (place : ℕ) (is left : List ℕ) → Left n seen left → length is ≡ length left → entryTests n seen place is ≡ Passed →
     List·Memᴰ is (ordersOf (length is) left)
 unfolding entryTests
 entries-order n seen place [] left h l p = unfold ordersOf in List·Memᴰ·head refl
 entries-order n seen place (i ∷ is) left h l p =
-    let q = then-passed (refuseIf (eqb i 0 || ltb n i || among i seen) byNotPosting place) (entryTests n (i ∷ seen) (place + 1) is) p in
-    let r = nor-both (eqb i 0 || ltb n i) (among i seen) (if-passed (eqb i 0 || ltb n i || among i seen) byNotPosting place (q .0)) in
+    let stray = eqb i 0 || ltb n i || stands i seen in
+    let q = not-refused stray byNotPosting place (then-left (refuseIf stray byNotPosting place) (entryTests n (i ∷ seen) (place + 1) is) p) in
+    let r = nor-both (eqb i 0 || ltb n i) (stands i seen) (is-false stray q) in
     let s = nor-both (eqb i 0) (ltb n i) (r .0) in
     let m = h .all i (positive i (eqb-not i 0 (s .0))) (nltb→le n i (s .1)) (r .1) in
     orders-make (length is) left i is m
-    (entries-order n (i ∷ seen) (place + 1) is (without i left) (left-next n seen left i h m) (omega (arith, length-without i left m)) (q .1))
+    (entries-order n (i ∷ seen) (place + 1) is (without i left) (left-next n seen left i h m) (omega (arith, length-without i left m)) (then-right (refuseIf stray byNotPosting place) (entryTests n (i ∷ seen) (place + 1) is) p))
   where
     positive : (i : ℕ) → ¬ (i ≡ 0) → 0 < i
     positive zero g = absurd (g refl)
     positive (suc i) g = omega arith
 
-passed-then : (a b : Tested) → Pass a → Pass b → Pass (a then b)
-unfolding _then_
-passed-then Passed b p q = q
-passed-then (Refused m r) b p q = absurd p
-
-passed-if : (b : Bool) (n p : ℕ) → T (not b) → Pass (refuseIf b n p)
-unfolding refuseIf
-passed-if true n p t = t
-passed-if false n p t = tt
-
-order-entries : (n : ℕ) (seen : List ℕ) (place k : ℕ) (is left : List ℕ) → Left n seen left → List·Memᴰ is (ordersOf k left) → Pass (entryTests n seen place is)
+order-entries : (n : ℕ) (seen : List ℕ) (place k : ℕ) (is left : List ℕ) → Left n seen left → List·Memᴰ is (ordersOf k left) → entryTests n seen place is ≡ Passed
 unfolding entryTests ordersOf
-order-entries n seen place k [] left h m = tt
+order-entries n seen place k [] left h m = refl
 order-entries n seen place zero (i ∷ is) left h m = absurd (nothing (List·Memᴰ·cases-cons m))
   where
     no-cons : Path (List ℕ) (i ∷ is) [] → ⊥
@@ -130,66 +107,45 @@ order-entries n seen place (suc k) (i ∷ is) left h m =
     let f : List·Memᴰ is (ordersOf k (without i left)) =
     subst (λ (x : ℕ). List·Memᴰ is (ordersOf k (without x left))) (sym e) (subst (λ (o : List ℕ). List·Memᴰ o (ordersOf k (without (c .0) left))) (sym (tail-eq-of-cons-eq (c .4))) (c .3)) in
     let r = h .row i g in
-    passed-then (refuseIf (eqb i 0 || ltb n i || among i seen) byNotPosting place) (entryTests n (i ∷ seen) (place + 1) is)
-    (passed-if (eqb i 0 || ltb n i || among i seen) byNotPosting place (nor (eqb i 0 || ltb n i) (among i seen)
-    (nor (eqb i 0) (ltb n i) (not-eqb i 0 (λ z. omega (arith, r .0))) (not-T (ltb n i) (λ t. let l : n < i = ltb→lt n i t in omega (arith, r .1)))) (r .2)))
+    then-passes (eqb i 0 || ltb n i || stands i seen) byNotPosting place (entryTests n (i ∷ seen) (place + 1) is) (nor (eqb i 0 || ltb n i) (stands i seen)
+    (nor (eqb i 0) (ltb n i) (not-eqb i 0 (λ z. omega (arith, r .0))) (not-T (ltb n i) (λ t. let l : n < i = ltb→lt n i t in omega (arith, r .1)))) (r .2))
     (order-entries n (i ∷ seen) (place + 1) k is (without i left) (left-next n seen left i h g) f)
 
 left-all : (n : ℕ) → Left n [] (countFrom 1 n)
-unfolding among
+unfolding stands
 left-all n = record { all = λ k p q t. from-mem k 1 n p (omega arith); row = λ k m. let r = count-range 1 n m in (r .0, omega (arith, r .1), tt); once = λ k. count-once k 1 n }
-
-passed-none : (o : Tested) → Pass o → o ≡ Passed
-passed-none Passed p = refl
-passed-none (Refused m q) p = absurd p
 
 pub posting-order : (n : ℕ) (posting : List ℕ) → length (countFrom 1 n) ≡ n → postingTests n posting ≡ Passed → List·Memᴰ posting (ordersOf n (countFrom 1 n))
 unfolding postingTests
 posting-order n posting l e =
-    let p : Pass (postingTests n posting) = subst Pass (sym e) tt in
-    let q = then-passed (refuseIf (not (eqb (length posting) n)) byNotPosting (min (length posting) n)) (entryTests n [] 0 posting) p in
-    let k = same (length posting) n (if-passed (not (eqb (length posting) n)) byNotPosting (min (length posting) n) (q .0)) in
-    subst (λ (m : ℕ). List·Memᴰ posting (ordersOf m (countFrom 1 n))) k (entries-order n [] 0 posting (countFrom 1 n) (left-all n) (k ∙ sym l) (q .1))
+    let size = refuseIf (not (eqb (length posting) n)) byNotPosting (min (length posting) n) in
+    let k = same (eqb (length posting) n) (eqb→eq (length posting) n) (not-refused _ _ _ (then-left size (entryTests n [] 0 posting) e)) in
+    subst (λ (m : ℕ). List·Memᴰ posting (ordersOf m (countFrom 1 n))) k
+    (entries-order n [] 0 posting (countFrom 1 n) (left-all n) (k ∙ sym l) (then-right size (entryTests n [] 0 posting) e))
   where
-    same : (a b : ℕ) → T (not (not (eqb a b))) → a ≡ b
-    same a b t = step (eqb a b) (eqb→eq a b) t
-      where
-        step : (c : Bool) → (T c → a ≡ b) → T (not (not c)) → a ≡ b
-        step true f t = f tt
-        step false f t = absurd t
+    same : (c : Bool) → (T c → length posting ≡ n) → not c ≡ false → length posting ≡ n
+    same true f e = f tt
+    same false f e = absurd (subst T e tt)
 
 pub order-posting : (n : ℕ) (posting : List ℕ) → length posting ≡ n → List·Memᴰ posting (ordersOf n (countFrom 1 n)) → postingTests n posting ≡ Passed
 order-posting n posting l m =
-    passed-none (postingTests n posting) (
-    unfold postingTests in passed-then (refuseIf (not (eqb (length posting) n)) byNotPosting (min (length posting) n)) (entryTests n [] 0 posting)
-    (passed-if (not (eqb (length posting) n)) byNotPosting (min (length posting) n) (twice (eqb (length posting) n) (subst (λ (k : ℕ). T (eqb (length posting) k)) l (eqb-refl (length posting)))))
+    unfold postingTests in then-passes (not (eqb (length posting) n)) byNotPosting (min (length posting) n) (entryTests n [] 0 posting)
+    (twice (eqb (length posting) n) (subst (λ (k : ℕ). T (eqb (length posting) k)) l (eqb-refl (length posting))))
     (order-entries n [] 0 n posting (countFrom 1 n) (left-all n) m)
-    )
   where
     twice : (b : Bool) → T b → T (not (not b))
     twice true t = tt
     twice false t = t
 
 -- What is no posting is refused with its own number.
-abbrev IsTen : Tested → Type 0
-IsTen Passed = Unit {0}
-IsTen (Refused n p) = n ≡ byNotPosting
+abbrev IsTen : ℕ → Type 0
+IsTen n = n ≡ byNotPosting
 
-ten-if : (b : Bool) (p : ℕ) → IsTen (refuseIf b byNotPosting p)
-unfolding refuseIf
-ten-if true p = refl
-ten-if false p = tt
-
-ten-then : (a b : Tested) → IsTen a → IsTen b → IsTen (a then b)
-unfolding _then_
-ten-then Passed b h k = k
-ten-then (Refused n p) b h k = h
-
-ten-entries : (n : ℕ) (seen : List ℕ) (place : ℕ) (is : List ℕ) → IsTen (entryTests n seen place is)
+ten-entries : (n : ℕ) (seen : List ℕ) (place : ℕ) (is : List ℕ) → Says IsTen (entryTests n seen place is)
 unfolding entryTests
 ten-entries n seen place [] = tt
-ten-entries n seen place (i ∷ is) = ten-then _ _ (ten-if _ place) (ten-entries n (i ∷ seen) (place + 1) is)
+ten-entries n seen place (i ∷ is) = then-says IsTen _ _ (if-says IsTen byNotPosting _ place refl) (ten-entries n (i ∷ seen) (place + 1) is)
 
 pub posting-number : (n : ℕ) (posting : List ℕ) (m p : ℕ) → postingTests n posting ≡ Refused m p → m ≡ byNotPosting
 unfolding postingTests
-posting-number n posting m p e = subst IsTen e (ten-then _ _ (ten-if _ (min (length posting) n)) (ten-entries n [] 0 posting))
+posting-number n posting m p e = subst (Says IsTen) e (then-says IsTen _ _ (if-says IsTen byNotPosting _ (min (length posting) n) refl) (ten-entries n [] 0 posting))

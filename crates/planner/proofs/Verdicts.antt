@@ -17,11 +17,13 @@ use Rattle.schedule.specs.Desk.{Pair}
 use Rattle.schedule.specs.Plans.{beats, firstBeating}
 use Rattle.book.specs.declared.Tested.the-variants.{Passed, Refused}
 use Rattle.book.specs.Refusals.{byNotPosting, refuseIf, _then_}
-use Rattle.book.proofs.Tests.{never, or-left, or-right}
+use Rattle.schedule.proofs.Tests.{neither}
+use Rattle.book.proofs.Tests.{never}
 use Rattle.core.proofs.Signs.{lowered-le, lowered-lt}
 use Rattle.planner.specs.declared.Judged.the-variants as judged
 use Rattle.planner.specs.Calls.{judgedOf}
-use Rattle.planner.specs.Posting.{among, entryTests, postingTests}
+use Rattle.book.specs.Rows.{stands}
+use Rattle.planner.specs.Posting.{entryTests, postingTests}
 use Rattle.planner.specs.Working.{pairAt, pairsOf, orZero}
 use Rattle.planner.proofs.Held.{first-length, first-at}
 
@@ -105,7 +107,7 @@ module _ (ps : List Pair) (q : Pair) (late : ℤ) (k : ℕ) (y : late ≡ q .lat
 
 -- Entries of a posting: marks say what was seen.
 abbrev pub Marks : List Bool → List ℕ → Type 0
-Marks seen s = (i : ℕ) → getD seen i false ≡ among i s
+Marks seen s = (i : ℕ) → getD seen i false ≡ stands i s
 
 all-false : (n i : ℕ) → getD (replicate n false) i false ≡ false
 all-false zero i = refl
@@ -113,15 +115,15 @@ all-false (suc n) zero = refl
 all-false (suc n) (suc i) = all-false n i
 
 pub marks-none : Marks (replicate 257 false) []
-unfolding among
+unfolding stands
 marks-none i = all-false 257 i
 
 pub marks-more : (seen : List Bool) (s : List ℕ) (k : ℕ) → k < length seen → Marks seen s → Marks (set seen k true) (k ∷ s)
-unfolding among
+unfolding stands
 marks-more seen s k h m i = go (ℕ-discrete i k)
   where
-    go : Dec (i ≡ k) → getD (set seen k true) i false ≡ (eqb i k || among i s)
-    go (yes e) = subst (λ (j : ℕ). getD (set seen k true) j false ≡ (eqb j k || among j s)) (sym e) (getD-set-same seen k true false h ∙ rw (eq-eqb k k refl) refl)
+    go : Dec (i ≡ k) → getD (set seen k true) i false ≡ (eqb i k || stands i s)
+    go (yes e) = subst (λ (j : ℕ). getD (set seen k true) j false ≡ (eqb j k || stands j s)) (sym e) (getD-set-same seen k true false h ∙ rw (eq-eqb k k refl) refl)
     go (no e) = getD-set-other seen k i true false e ∙ (m i ∙ rw (ne-eqb i k e) refl)
 
 -- One entry's test: no row, past the last, or marked.
@@ -136,20 +138,20 @@ module _ (n entry : ℕ) (b : Bool) where
   stray-marked d h = simp (ne-eqb entry 0 d, le-ltb n entry h)
 
   pub stray-not : (eqb entry 0 || ltb n entry || b) ≡ false → entry ≤ n
-  stray-not e = ltb-false n entry (or-right (eqb entry 0) (ltb n entry) (or-left (eqb entry 0 || ltb n entry) b e))
+  stray-not e = ltb-false n entry (neither (eqb entry 0) (ltb n entry) (neither (eqb entry 0 || ltb n entry) b e .0) .1)
 
 module _ (n : ℕ) (posting s : List ℕ) (k : ℕ) (h : k < length posting) where
   entry-step : entryTests n s k (drop k posting) ≡
-      (refuseIf (eqb (getD posting k 0) 0 || ltb n (getD posting k 0) || among (getD posting k 0) s) byNotPosting k then
+      (refuseIf (eqb (getD posting k 0) 0 || ltb n (getD posting k 0) || stands (getD posting k 0) s) byNotPosting k then
       entryTests n (getD posting k 0 ∷ s) (k + 1) (drop (k + 1) posting))
   unfolding entryTests
   entry-step = rw (add-one k) (ap (entryTests n s k) (drop-cons posting k 0 h) ∙ rw (add-one k) refl)
 
-  pub entry-stray : (eqb (getD posting k 0) 0 || ltb n (getD posting k 0) || among (getD posting k 0) s) ≡ true → entryTests n s k (drop k posting) ≡ Refused byNotPosting k
+  pub entry-stray : (eqb (getD posting k 0) 0 || ltb n (getD posting k 0) || stands (getD posting k 0) s) ≡ true → entryTests n s k (drop k posting) ≡ Refused byNotPosting k
   unfolding refuseIf _then_
   entry-stray e = entry-step ∙ rw e refl
 
-  pub entry-fine : (eqb (getD posting k 0) 0 || ltb n (getD posting k 0) || among (getD posting k 0) s) ≡ false →
+  pub entry-fine : (eqb (getD posting k 0) 0 || ltb n (getD posting k 0) || stands (getD posting k 0) s) ≡ false →
       entryTests n s k (drop k posting) ≡ entryTests n (getD posting k 0 ∷ s) (k + 1) (drop (k + 1) posting)
   unfolding refuseIf _then_
   entry-fine e = entry-step ∙ rw e refl
@@ -159,9 +161,6 @@ unfolding entryTests
 entries-end n posting s k e = ap (entryTests n s k) (ap (λ (m : ℕ). drop m posting) e ∙ drop-length posting)
 
 -- The length of a posting.
-min-left : (a b : ℕ) → a ≤ b → min a b ≡ a
-min-left a b h = omega arith
-
 pub posting-short : (n : ℕ) (posting : List ℕ) → length posting < n → Refused byNotPosting (length posting) ≡ postingTests n posting
 unfolding postingTests refuseIf _then_
 posting-short n posting h =

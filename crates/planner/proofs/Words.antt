@@ -23,7 +23,7 @@ pub word-above : (n : ℕ) → 2147483648 ≤ n → n - 2147483648 ≡ complemen
 unfolding complement
 word-above n h = sub-cases n 2147483648 (λ z. n - 2147483648 ≡ complement z) (λ k e. omega arith) (λ k e. omega arith)
 
-plan-length : (ps : List Pair) → length (planWords ps) ≡ 2 * length ps
+pub plan-length : (ps : List Pair) → length (planWords ps) ≡ 2 * length ps
 unfolding planWords
 plan-length [] = refl
 plan-length (p ∷ ps) = omega (arith, plan-length ps)

@@ -1,24 +1,20 @@
 -- Postings: an order posted by hand, as a list of row numbers, and the test that it is one.
--- Rests on: the book's Refusals.
+-- Rests on: the book's Refusals and Rows.
 use Prim.Native.Nat.{ℕ, _+_, min}
-use mathlib.Core.Bool.{Bool, false, not, _||_}
+use mathlib.Core.Bool.{not, _||_}
 use mathlib.Core.List.{List, [], _∷_}
 use lib.Dec.{ltb, eqb}
 use lib.ListN.{length}
 use Rattle.book.specs.declared.Tested.{Tested}
 use Rattle.book.specs.declared.Tested.the-variants.{Passed}
 use Rattle.book.specs.Refusals.{byNotPosting, refuseIf, _then_}
-
--- A number stands in a list.
-unfoldable pub among : ℕ → List ℕ → Bool
-among i [] = false
-among i (j ∷ js) = eqb i j || among i js
+use Rattle.book.specs.Rows.{stands}
 
 -- The first entry that is no row of n, or came before. `seen` came before, `place` is that of the first entry of the list.
 unfoldable pub entryTests : (n : ℕ) (seen : List ℕ) (place : ℕ) → List ℕ → Tested
 entryTests n seen place [] = Passed
 entryTests n seen place (i ∷ is) =
-    refuseIf (eqb i 0 || ltb n i || among i seen) byNotPosting place then entryTests n (i ∷ seen) (place + 1) is
+    refuseIf (eqb i 0 || ltb n i || stands i seen) byNotPosting place then entryTests n (i ∷ seen) (place + 1) is
 
 -- 10, not a posting: a wrong length first, with the smaller of length and row count as place; otherwise the first such entry.
 unfoldable pub postingTests : ℕ → List ℕ → Tested
@@ -27,5 +23,5 @@ postingTests n posting =
 
 -- Opens every definition of this file: name it on an `unfolding` line where all is to be computed.
 unfoldable pub openPosting : Unit {0}
-unfolding among entryTests postingTests
+unfolding stands entryTests postingTests
 openPosting = tt

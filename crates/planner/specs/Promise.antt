@@ -126,8 +126,3 @@ Property2 = DefinitionsHold
 
 abbrev pub Property3 : Type 0
 Property3 = (book : List ℕ) (free : ℕ) (rows : List Row) → readBook book ≡ accepted free rows → CallsKeepPromise book free rows
-
--- Opens the definitions of this file.
-unfoldable pub openPromise : Unit {0}
-unfolding signed plansIn
-openPromise = tt

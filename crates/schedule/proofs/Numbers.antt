@@ -1,16 +1,15 @@
--- The numbers of all rows: how many there are, which, and that each stands once; and the row that a number names.
+-- The numbers of all rows: how many there are, which, and that each stands once.
 -- Assumes nothing.
 use Prim.Native.Nat.{ℕ, zero, suc, _+_, _≤_, _<_}
 use native.Mathlib.Omega.{arith}
 use native.Mathlib.Decide.{ℕ-discrete}
 use mathlib.Core.Bool.{Bool, true, false}
 use mathlib.Core.Path.{_≡_, refl, ap}
-use mathlib.Core.List.{List, [], _∷_, List·Memᴰ, List·Memᴰ·head, List·Memᴰ·tail, List·Memᴰ·not-nil, List·Memᴰ·cases-cons}
+use mathlib.Core.List.{_∷_, List·Memᴰ, List·Memᴰ·head, List·Memᴰ·tail, List·Memᴰ·not-nil, List·Memᴰ·cases-cons}
 use mathlib.Core.Logic.{_⊎_, inl, inr}
 use lib.Dec.{T, eqb, eqb→eq}
-use lib.ListN.{length, getD}
-use Rattle.schedule.specs.declared.Row.{Row}
-use Rattle.schedule.specs.Rows.{noRow, row, countFrom, allRows}
+use lib.ListN.{length}
+use Rattle.schedule.specs.Rows.{countFrom}
 use Rattle.schedule.proofs.Orders.{one, count}
 
 pub length-count : (i n : ℕ) → length (countFrom i n) ≡ n
@@ -53,12 +52,3 @@ from-mem k i (suc n) h l = step (ℕ-discrete k i) (λ g. from-mem k (suc i) n g
     step : Dec (k ≡ i) → (suc i ≤ k → List·Memᴰ k (countFrom (suc i) n)) → List·Memᴰ k (i ∷ countFrom (suc i) n)
     step (yes e) f = List·Memᴰ·head e
     step (no e) f = List·Memᴰ·tail (f (omega arith))
-
-pub getD-mem : {A : Type 0} (l : List A) (n : ℕ) (d : A) → n < length l → List·Memᴰ (getD l n d) l
-getD-mem [] n d h = let z : ⊥ = omega arith in absurd z
-getD-mem (x ∷ l) zero d h = List·Memᴰ·head refl
-getD-mem (x ∷ l) (suc n) d h = List·Memᴰ·tail (getD-mem l n d (omega arith))
-
-pub row-mem : (rows : List Row) (i : ℕ) → List·Memᴰ i (allRows rows) → List·Memᴰ (row rows i) rows
-row-mem rows zero m = let z : ⊥ = omega (arith, count-range 1 (length rows) m .0) in absurd z
-row-mem rows (suc i) m = getD-mem rows i noRow (omega (arith, count-range 1 (length rows) m .1))

@@ -58,13 +58,6 @@ pub →ltZ : (a b : ℤ) → a ≺ b → T (ltZ a b)
 →ltZ (negsuc a) (pos b) h = tt
 →ltZ (negsuc a) (negsuc b) h = lt→ltb b a (omega arith)
 
-pub nltZ→ : (a b : ℤ) → T (not (ltZ a b)) → b ≼ a
-nltZ→ a b t = step (decLe (up b + down a) (up a + down b))
-  where
-    step : Dec (b ≼ a) → b ≼ a
-    step (yes h) = h
-    step (no h) = absurd (T-not (ltZ a b) t (→ltZ a b (omega arith)))
-
 pub leZ-trans : (a b c : ℤ) → T (leZ a b) → T (leZ b c) → T (leZ a c)
 leZ-trans a b c h k = →leZ a c (omega (arith, leZ→ a b h, leZ→ b c k))
 

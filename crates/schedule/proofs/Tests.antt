@@ -39,10 +39,9 @@ pub nor-both : (a b : Bool) → T (not (a || b)) → T (not a) × T (not b)
 nor-both true b t = absurd t
 nor-both false b t = (tt, t)
 
-pub not-nand : (a b : Bool) → T (not (not (a && b))) → T a × T b
-not-nand true true t = (tt, tt)
-not-nand true false t = absurd t
-not-nand false b t = absurd t
+pub neither : (a b : Bool) → (a || b) ≡ false → (a ≡ false) × (b ≡ false)
+neither true b e = let t : ⊥ = subst T e tt in absurd t
+neither false b e = (refl, e)
 
 pub is-true : (b : Bool) → b ≡ true → T b
 is-true b e = rw e tt

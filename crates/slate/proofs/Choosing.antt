@@ -1,12 +1,11 @@
 -- The choice of the line: what the odd bytes and the answer of the list make of it.
 -- Assumes nothing.
-use Prim.Native.Nat.{ℕ, _+_, _*_, _/_, _%_, _≤_, _<_}
-use mathlib.Core.Bool.{Bool, true, false, cond}
+use Prim.Native.Nat.{ℕ, _*_, _/_, _≤_}
+use mathlib.Core.Bool.{true, false}
 use mathlib.Core.Path.{_≡_, refl, ap, sym, _∙_}
-use mathlib.Core.List.{List, map}
+use mathlib.Core.List.{List}
 use native.Mathlib.Omega.{arith}
 use lib.ListN.{length, length-map}
-use Rattle.schedule.specs.Desk.{Pair}
 use Rattle.book.specs.declared.Table.{Table}
 use Rattle.book.specs.declared.Reading.{Reading}
 use Rattle.book.specs.Rows.{Contents, refused, accepted}
@@ -16,7 +15,7 @@ use Rattle.planner.specs.declared.Listed.{Listed}
 use Rattle.planner.specs.declared.Listed.the-variants as listed
 use Rattle.planner.specs.Answers.{saidList}
 use Rattle.planner.specs.Calls.{Outcome, gives, plansOf, listCall}
-use Rattle.planner.specs.Lines.{Printed, refusal, listing, lineOf, printed}
+use Rattle.planner.specs.Lines.{refusal, lineOf, printed}
 use Rattle.planner.specs.Promise.{plansIn, listedPlans}
 use Rattle.planner.proofs.CallLaws.{list-refused, list-is}
 use Rattle.planner.proofs.Memory.{lent-memory}

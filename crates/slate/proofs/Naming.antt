@@ -4,60 +4,26 @@ use Prim.Native.Nat.{ℕ, zero, suc, _+_, _≤_, _<_}
 use mathlib.Core.Path.{_≡_, refl, ap, sym, subst, _∙_}
 use mathlib.Core.List.{List, [], _∷_, map}
 use native.Mathlib.Omega.{arith}
-use native.Mathlib.Decide.{ℕ-discrete, decLt}
-use native.Mathlib.Numerals.{add-one}
-use lib.ListN.{length, take, getD, set, replicate, length-set, length-replicate, length-map}
-use lib.Seq.{getD-take, getD-set-same, getD-set-other, ext-getD}
+use native.Mathlib.Decide.{ℕ-discrete}
+use lib.ListN.{length, take, getD, set, replicate, length-set, length-map}
+use lib.Seq.{getD-set-same, getD-set-other, ext-getD}
 use Rattle.schedule.specs.declared.Row.{Row}
-use Rattle.schedule.specs.Rows.{noRow, row}
+use Rattle.schedule.specs.Rows.{noRow}
+use Rattle.rows.proofs.Column.{Column, column-none, column-more}
 
 -- The numbers of the first n rows, at their places.
+abbrev number : Row → ℕ
+number r = r .number
+
 abbrev pub Numbers : List ℕ → List Row → Type 0
-Numbers numbers rows = (length numbers ≡ 257) × ((i : ℕ) → getD numbers i 0 ≡ row rows i .number)
-
-zeros : (n i : ℕ) → _≡_ {A = ℕ} (getD (replicate n 0) i 0) 0
-zeros zero i = refl
-zeros (suc n) zero = refl
-zeros (suc n) (suc i) = zeros n i
-
-nothing : (i : ℕ) → row [] i .number ≡ 0
-nothing zero = refl
-nothing (suc i) = refl
+Numbers = Column number
 
 pub no-numbers : Numbers (replicate 257 0) []
-no-numbers = (length-replicate {A = ℕ} 257 0, λ i. zeros 257 i ∙ sym (nothing i))
-
-past-take : (n : ℕ) (rows : List Row) (i : ℕ) → n ≤ i → getD (take n rows) i noRow ≡ noRow
-past-take zero rows i h = refl
-past-take (suc n) [] i h = refl
-past-take (suc n) (r ∷ rows) zero h = let z : ⊥ = omega arith in absurd z
-past-take (suc n) (r ∷ rows) (suc i) h = past-take n rows i (omega arith)
-
--- Another number names the same row among the first n and among the first n + 1.
-same-other : (rows : List Row) (n i : ℕ) → ¬ (i ≡ suc n) → row (take (suc n) rows) i ≡ row (take n rows) i
-same-other rows n zero h = refl
-same-other rows n (suc i) h = step (decLt i n)
-  where
-    step : Dec (i < n) → getD (take (suc n) rows) i noRow ≡ getD (take n rows) i noRow
-    step (yes l) = getD-take (suc n) rows i noRow (omega arith) ∙ sym (getD-take n rows i noRow l)
-    step (no l) = past-take (suc n) rows i (past (ℕ-discrete i n)) ∙ sym (past-take n rows i (omega arith))
-      where
-        past : Dec (i ≡ n) → suc n ≤ i
-        past (yes e) = absurd (h (ap suc e))
-        past (no e) = omega arith
+no-numbers = column-none number refl
 
 pub more-numbers : (numbers : List ℕ) (rows : List Row) (n : ℕ) (r : Row) → n < 256 → r ≡ getD rows n noRow → Numbers numbers (take n rows) →
     Numbers (set numbers (n + 1) (r .number)) (take (n + 1) rows)
-more-numbers numbers rows n r h e a = (
-  length-set numbers (n + 1) (r .number) ∙ a .0,
-  λ i. subst (λ (m : ℕ). getD (set numbers m (r .number)) i 0 ≡ row (take m rows) i .number) (sym (add-one n)) (at i (ℕ-discrete i (suc n))),
-)
-  where
-    at : (i : ℕ) → Dec (i ≡ suc n) → getD (set numbers (suc n) (r .number)) i 0 ≡ row (take (suc n) rows) i .number
-    at i (yes g) =
-        subst (λ (m : ℕ). getD (set numbers (suc n) (r .number)) m 0 ≡ row (take (suc n) rows) m .number) (sym g)
-        (getD-set-same numbers (suc n) (r .number) 0 (omega (arith, a .0)) ∙ ap (λ (s : Row). s .number) (e ∙ sym (getD-take (suc n) rows n noRow (omega arith))))
-    at i (no g) = getD-set-other numbers (suc n) i (r .number) 0 g ∙ (a .1 i ∙ ap (λ (s : Row). s .number) (sym (same-other rows n i g)))
+more-numbers = column-more number
 
 -- An order whose first k rows have their numbers in their places.
 pub record Named (f : ℕ → ℕ) (k : ℕ) (order before : List ℕ) : Type 0 where

@@ -1,10 +1,9 @@
 -- What is printed stands in the definition: the refusal, the counts, the line of each plan. And signed words.
 -- Assumes nothing.
-use Prim.Native.Nat.{ℕ, zero, suc, _+_, _-_, _*_, _/_, _%_, _≤_, _<_}
-use mathlib.Core.Bool.{Bool, true, false, cond, not, _&&_}
-use mathlib.Core.Path.{_≡_, refl, ap, sym, subst, _∙_}
+use Prim.Native.Nat.{ℕ, zero, suc, _+_, _-_, _*_, _≤_, _<_}
+use mathlib.Core.Path.{_≡_, refl, ap, sym, _∙_}
 use mathlib.Core.List.{List, [], _∷_, _++_, append-nil, map}
-use mathlib.Core.Option.{Option, none, some}
+use mathlib.Core.Option.{some}
 use native.Mathlib.Omega.{arith}
 use native.Mathlib.Decide.{decLt}
 use native.Mathlib.Numerals.{add-one}
@@ -13,27 +12,23 @@ use mir.Val.{toZ, ofZ}
 use mir.ValLaws.{toZ-ofZ}
 use Rattle.schedule.proofs.Words.{lowered-fits}
 use borrow.Author.Tests.{lt-ltb, le-ltb}
-use lib.Dec.{ltb, eqb}
 use lib.IntN.{ℤ, pos, negsuc}
-use lib.ListN.{length, take, drop, getD, length-append}
+use lib.ListN.{length, take, getD, length-append}
 use lib.Seq.{take-append-seam, drop-length}
-use Rattle.schedule.specs.declared.Row.{Row}
-use Rattle.schedule.specs.Rows.{row, allRows}
+use Rattle.schedule.specs.Rows.{row}
 use Rattle.schedule.specs.Desk.{Pair}
 use Rattle.schedule.specs.Offset.{lowered}
 use Rattle.schedule.proofs.Signed.{sub-cases}
 use Rattle.book.specs.declared.Table.{Table}
-use Rattle.book.specs.Rows.{Contents, refused, accepted}
-use Rattle.book.specs.Book.{readBook, tableRows}
+use Rattle.book.specs.Book.{tableRows}
 use Rattle.planner.specs.Calls.{nth, plansOf, orderOf}
-use Rattle.planner.specs.Lines.{Line, Printed, refusal, listing, numbersOf, lineOf, printed}
+use Rattle.planner.specs.Lines.{Line, numbersOf, lineOf, printed}
 use Rattle.planner.specs.Promise.{signed, plansIn}
-use Rattle.slate.specs.Input.{wordsIn}
-use Rattle.slate.specs.Printing.{odd, prints, Opens, lineAt}
+use Rattle.slate.specs.Printing.{prints, lineAt}
 use Rattle.schedule.proofs.Numbers.{length-count}
 use Rattle.schedule.proofs.Orders.{perm-count}
 use Rattle.planner.specs.declared.Ordered.{Ordered}
-use Rattle.planner.specs.Calls.{Outcome, gives, written, boundCall, listCall}
+use Rattle.planner.specs.Calls.{Outcome, written, boundCall}
 use Rattle.planner.proofs.CallLaws.{bound-is, order-some}
 use Rattle.planner.proofs.Promise.{calls-keep-promise}
 use Rattle.slate.specs.Parts.{Shown, Heard}

@@ -1,11 +1,11 @@
 -- Laws of the words of an input: none in fewer than four bytes, and one more word at each turn of the loop that takes them.
 -- Assumes nothing.
 use Prim.Native.Nat.{ℕ, zero, suc, _+_, _-_, _*_, _≤_, _<_}
-use mathlib.Core.Path.{_≡_, refl, ap, sym, _∙_}
+use mathlib.Core.Path.{_≡_, refl, sym, _∙_}
 use mathlib.Core.List.{List, [], _∷_, _++_, append-assoc, append-nil}
 use native.Mathlib.Omega.{arith}
 use native.Mathlib.Numerals.{add-one, unary-clauses}
-use lib.ListN.{length, take, drop, getD, set, length-drop}
+use lib.ListN.{length, take, drop, set}
 use lib.Seq.{drop-cons, take-suc-set, length-take-le}
 use Rattle.slate.specs.Input.{wordAt, wordsIn}
 use Rattle.slate.specs.Parts.{Counted}

@@ -7,7 +7,7 @@ use mathlib.Core.Option.{some}
 use lib.ListN.{length, take, getD}
 use Rattle.book.specs.declared.Table.{Table}
 use Rattle.book.specs.Rows.{accepted}
-use Rattle.book.specs.Book.{readBook, tableOf, tableRows}
+use Rattle.book.specs.Book.{readBook, tableRows}
 use Rattle.planner.specs.Calls.{plansOf, boundCall}
 use Rattle.planner.specs.Lines.{printed}
 use Rattle.planner.specs.Promise.{signed, plansIn}

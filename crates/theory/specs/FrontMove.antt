@@ -13,14 +13,6 @@ pub ready-mono : (g j : Job) (t t′ : ℕ) → ready g t ≤ ready j t → t �
 unfolding ready
 ready-mono g j t t′ h k = omega arith
 
-pub ready-finish : (j : Job) (t : ℕ) → finish j t ≡ ready j t + j .length
-unfolding ready finish
-ready-finish j t = refl
-
-pub ready-bound : (j : Job) (t : ℕ) → (t ≤ ready j t) × (j .release ≤ ready j t)
-unfolding ready
-ready-bound j t = omega arith
-
 pub finish-bound : (j : Job) (t : ℕ) → (t + j .length ≤ finish j t) × (j .release + j .length ≤ finish j t)
 unfolding finish
 finish-bound j t = omega arith

@@ -8,13 +8,14 @@ use mathlib.Core.List.{List, [], _∷_}
 use lib.Dec.{eqb, ltb}
 use lib.ListN.{length, drop, getD, length-replicate, length-set}
 use borrow.Author.Needs.{needs}
-use Rattle.planner.specs.Posting.{among, entryTests}
+use Rattle.book.specs.Rows.{stands}
+use Rattle.planner.specs.Posting.{entryTests}
 use Rattle.planner.proofs.Verdicts.{Marks, marks-none, marks-more, stray-not, entry-stray, entry-fine, entries-end}
 use Rattle.planner.proofs.entry_tests.Statement.{statement}
 use Rattle.planner.proofs.entry_tests.Tie as tie
 
 -- The test of an entry, by the marks and by what was seen.
-by-seen : (n e : ℕ) (seen : List Bool) (s : List ℕ) (r b : Bool) → Marks seen s → r ≡ (eqb e 0 || ltb n e || getD seen e false) → r ≡ b → (eqb e 0 || ltb n e || among e s) ≡ b
+by-seen : (n e : ℕ) (seen : List Bool) (s : List ℕ) (r b : Bool) → Marks seen s → r ≡ (eqb e 0 || ltb n e || getD seen e false) → r ≡ b → (eqb e 0 || ltb n e || stands e s) ≡ b
 by-seen n e seen s r b m h k = sym (ap (λ (x : Bool). eqb e 0 || ltb n e || x) (m e)) ∙ (sym h ∙ k)
 
 abbrev Inv-loop : tie.InvT-loop
