@@ -11,12 +11,12 @@ use lib.Seq.{getD-set-same, getD-set-other}
 use borrow.Author.Tests.{eq-eqb, ne-eqb, eqb-true, lt-ltb, le-ltb, le-leb, lt-leb}
 use Rattle.theory.specs.Jobs.{Job, ready}
 use Rattle.schedule.specs.Rows.{without}
-use Rattle.schedule.specs.Picks.{ahead, before, leastOf, firstPick, others, secondPick, decided}
+use Rattle.schedule.specs.Picks.{ahead, earliestEnd, outranks, before, leastOf, firstPick, others, secondPick, decided}
 use Rattle.schedule.proofs.Tests.{Compared, compared}
 use Rattle.schedule.proofs.PickLaws.{least-mem}
 use Rattle.schedule.proofs.Orders.{length-without, mem-without}
-use Rattle.core.specs.Columns.{columns, leftFrom, left}
-use Rattle.core.specs.Taking.{better}
+use Rattle.core.specs.Columns.{leftFrom, left}
+use Rattle.core.specs.Taking.{ranked, better}
 use Rattle.core.proofs.Marked.{scan-taken, scan-free, scan-end}
 
 -- Two numbers compared.
@@ -44,43 +44,47 @@ ahead-same a b x h = go (compare a b) (compared a b)
     go Ordering·eq c = refl
     go Ordering·gt c = let z : ⊥ = omega arith in absurd z
 
+-- Which of two rows outranks the other.
+module _ (job : ℕ → Job) (i j : ℕ) where
+  pub due-sooner : job j .due < job i .due → j ≡ ranked job i j
+  unfolding ranked outranks
+  due-sooner h = simp (ahead-less (job j .due) (job i .due) (ahead (compare (earliestEnd (job j)) (earliestEnd (job i))) (ltb j i)) h)
+
+  pub due-later : job i .due < job j .due → i ≡ ranked job i j
+  unfolding ranked outranks
+  due-later h = simp (ahead-more (job j .due) (job i .due) (ahead (compare (earliestEnd (job j)) (earliestEnd (job i))) (ltb j i)) h)
+
+  module _ (h : job i .due ≤ job j .due) (g : job j .due ≤ job i .due) where
+    due-same : outranks job j i ≡ ahead (compare (earliestEnd (job j)) (earliestEnd (job i))) (ltb j i)
+    unfolding outranks
+    due-same = ahead-same (job j .due) (job i .due) (ahead (compare (earliestEnd (job j)) (earliestEnd (job i))) (ltb j i)) (omega arith)
+
+    pub end-sooner : earliestEnd (job j) < earliestEnd (job i) → j ≡ ranked job i j
+    unfolding ranked
+    end-sooner l = simp (due-same, ahead-less (earliestEnd (job j)) (earliestEnd (job i)) (ltb j i) l)
+
+    pub end-later : earliestEnd (job i) < earliestEnd (job j) → i ≡ ranked job i j
+    unfolding ranked
+    end-later l = simp (due-same, ahead-more (earliestEnd (job j)) (earliestEnd (job i)) (ltb j i) l)
+
+    module _ (l : earliestEnd (job i) ≤ earliestEnd (job j)) (m : earliestEnd (job j) ≤ earliestEnd (job i)) where
+      end-same : outranks job j i ≡ ltb j i
+      end-same = due-same ∙ ahead-same (earliestEnd (job j)) (earliestEnd (job i)) (ltb j i) (omega arith)
+
+      pub row-smaller : j < i → j ≡ ranked job i j
+      unfolding ranked
+      row-smaller k = simp (end-same, lt-ltb j i k)
+
+      pub row-larger : i ≤ j → i ≡ ranked job i j
+      unfolding ranked
+      row-larger k = simp (end-same, le-ltb j i k)
+
 module _ (job : ℕ → Job) (t : ℕ) where
-  -- Which of two rows goes before the other.
-  module _ (i j : ℕ) where
-    ready-first : ready (job i) t < ready (job j) t → before job t i j ≡ true
-    unfolding before
-    ready-first h = ahead-less (ready (job i) t) (ready (job j) t) _ h
-
-    ready-last : ready (job j) t < ready (job i) t → before job t i j ≡ false
-    unfolding before
-    ready-last h = ahead-more (ready (job i) t) (ready (job j) t) _ h
-
-    module _ (e : ready (job i) t ≡ ready (job j) t) where
-      due-first : job i .due < job j .due → before job t i j ≡ true
-      unfolding before
-      due-first h = ahead-same (ready (job i) t) (ready (job j) t) _ e ∙ ahead-less (job i .due) (job j .due) (ltb i j) h
-
-      due-last : job j .due < job i .due → before job t i j ≡ false
-      unfolding before
-      due-last h = ahead-same (ready (job i) t) (ready (job j) t) _ e ∙ ahead-more (job i .due) (job j .due) (ltb i j) h
-
-      row-decides : job i .due ≡ job j .due → before job t i j ≡ ltb i j
-      unfolding before
-      row-decides d = ahead-same (ready (job i) t) (ready (job j) t) _ e ∙ ahead-same (job i .due) (job j .due) (ltb i j) d
-
   -- The better of two rows.
   module _ (i j : ℕ) where
     pub better-none : i ≡ 0 → j ≡ better job t i j
     unfolding better
     better-none e = simp (eq-eqb i 0 e)
-
-    better-new : (i ≡ 0 → ⊥) → before job t j i ≡ true → j ≡ better job t i j
-    unfolding better
-    better-new n b = simp (ne-eqb i 0 n, b)
-
-    better-old : (i ≡ 0 → ⊥) → before job t j i ≡ false → i ≡ better job t i j
-    unfolding better
-    better-old n b = simp (ne-eqb i 0 n, b)
 
     pub better-below : (k : ℕ) → i < k → j < k → better job t i j < k
     unfolding better
@@ -91,33 +95,19 @@ module _ (job : ℕ → Job) (t : ℕ) where
         go false true = q
         go false false = p
 
-  -- The better of two rows, from the minutes a and b at which they are ready.
-  module _ (i j : ℕ) (some : i ≡ 0 → ⊥) (a b : ℕ) (ready-i : a ≡ max t (job i .release)) (ready-j : b ≡ max t (job j .release)) where
-    pub ready-sooner : b < a → j ≡ better job t i j
-    unfolding ready
-    ready-sooner h = better-new i j some (ready-first j i (omega arith))
+    -- From the minutes a and b at which they are ready.
+    module _ (some : i ≡ 0 → ⊥) (a b : ℕ) (ready-i : a ≡ max t (job i .release)) (ready-j : b ≡ max t (job j .release)) where
+      pub ready-sooner : b < a → j ≡ better job t i j
+      unfolding better before ready
+      ready-sooner h = simp (ne-eqb i 0 some, ahead-less (max t (job j .release)) (max t (job i .release)) (outranks job j i) (omega arith))
 
-    pub ready-later : a < b → i ≡ better job t i j
-    unfolding ready
-    ready-later h = better-old i j some (ready-last j i (omega arith))
+      pub ready-later : a < b → i ≡ better job t i j
+      unfolding better before ready
+      ready-later h = simp (ne-eqb i 0 some, ahead-more (max t (job j .release)) (max t (job i .release)) (outranks job j i) (omega arith))
 
-    module _ (h : a ≤ b) (g : b ≤ a) where
-      together : ready (job j) t ≡ ready (job i) t
-      unfolding ready
-      together = omega arith
-
-      pub due-sooner : job j .due < job i .due → j ≡ better job t i j
-      due-sooner d = better-new i j some (due-first j i together d)
-
-      pub due-later : job i .due < job j .due → i ≡ better job t i j
-      due-later d = better-old i j some (due-last j i together d)
-
-      module _ (d : job i .due ≤ job j .due) (e : job j .due ≤ job i .due) where
-        pub row-smaller : j < i → j ≡ better job t i j
-        row-smaller l = better-new i j some (row-decides j i together (omega arith) ∙ lt-ltb j i l)
-
-        pub row-larger : i ≤ j → i ≡ better job t i j
-        row-larger l = better-old i j some (row-decides j i together (omega arith) ∙ le-ltb j i l)
+      pub ready-together : a ≤ b → b ≤ a → ranked job i j ≡ better job t i j
+      unfolding better ranked before ready
+      ready-together h g = simp (ne-eqb i 0 some, ahead-same (max t (job j .release)) (max t (job i .release)) (outranks job j i) (omega arith))
 
   -- The pick of the row b, if there is one so far, and the rows js.
   unfoldable pub scan : ℕ → List ℕ → ℕ
@@ -167,8 +157,8 @@ module _ (job : ℕ → Job) (t : ℕ) where
       ap (λ (b : Bool). b || leb (job f .due) (job (secondPick job t (i ∷ is)) .due))
       (none-other (length (i ∷ is)) (without f (i ∷ is)) (λ k m. p k (mem-without f (i ∷ is) m)) (length-without f (i ∷ is) (pick-mem i is)))
 
--- The scan over the rows from i on, with the row `skip` passed over as if it were taken. Lengths play no part in it.
-module _ (release due : List ℕ) (taken : List Bool) (skip n t : ℕ) where
+-- The scan over the rows from i on, with the row `skip` passed over as if it were taken.
+module _ (job : ℕ → Job) (taken : List Bool) (skip n t : ℕ) where
   abbrev marks : List Bool
   marks = set taken skip true
 
@@ -177,7 +167,7 @@ module _ (release due : List ℕ) (taken : List Bool) (skip n t : ℕ) where
     pub low : 1 ≤ i
     pub high : i ≤ n + 1
     pub below : best < i
-    pub same : (len : List ℕ) → scan (columns release len due) t best (leftFrom (set taken skip true) i (n + 1 - i)) ≡ firstPick (columns release len due) t (left (set taken skip true) n)
+    pub same : scan job t best (leftFrom (set taken skip true) i (n + 1 - i)) ≡ firstPick job t (left (set taken skip true) n)
 
   pub scanning-first : Scanning 0 1
   unfolding left scan
@@ -185,12 +175,12 @@ module _ (release due : List ℕ) (taken : List Bool) (skip n t : ℕ) where
     low = omega arith;
     high = omega arith;
     below = omega arith;
-    same = λ len. let s : n + 1 - 1 ≡ n = omega arith in ap (λ (m : ℕ). firstPick (columns release len due) t (leftFrom marks 1 m)) s;
+    same = let s : n + 1 - 1 ≡ n = omega arith in ap (λ (m : ℕ). firstPick job t (leftFrom marks 1 m)) s;
   }
 
   module _ (best i : ℕ) (s : Scanning best i) where
-    pub scanning-last : n < i → (len : List ℕ) → best ≡ firstPick (columns release len due) t (left marks n)
-    scanning-last h len = sym (ap (scan (columns release len due) t best) (scan-end marks n i h) ∙ scan-last (columns release len due) t best) ∙ s .same len
+    pub scanning-last : n < i → best ≡ firstPick job t (left marks n)
+    scanning-last h = sym (ap (scan job t best) (scan-end marks n i h) ∙ scan-last job t best) ∙ s .same
 
     module _ (h : i ≤ n) (b : ℕ) where
       -- A row that is marked is passed over.
@@ -199,8 +189,7 @@ module _ (release due : List ℕ) (taken : List Bool) (skip n t : ℕ) where
         low = omega arith;
         high = omega arith;
         below = omega (arith, s .below);
-        same = λ len. let job = columns release len due in
-            ap (λ (m : ℕ). scan job t m (leftFrom marks (i + 1) (n + 1 - (i + 1)))) k ∙ (ap (scan job t best) (sym (scan-taken marks n i h e)) ∙ s .same len);
+        same = ap (λ (m : ℕ). scan job t m (leftFrom marks (i + 1) (n + 1 - (i + 1)))) k ∙ (ap (scan job t best) (sym (scan-taken marks n i h e)) ∙ s .same);
       }
 
       pub scanning-skipped : length taken ≡ 257 → n ≤ 256 → i ≡ skip → b ≡ best → Scanning b (i + 1)
@@ -211,13 +200,12 @@ module _ (release due : List ℕ) (taken : List Bool) (skip n t : ℕ) where
         scanning-taken e k = pass (getD-set-other taken skip i true false other ∙ e) k
 
         -- Another row is held against the best so far.
-        pub scanning-free : getD taken i false ≡ false → ((len : List ℕ) → b ≡ better (columns release len due) t best i) → Scanning b (i + 1)
+        pub scanning-free : getD taken i false ≡ false → b ≡ better job t best i → Scanning b (i + 1)
         scanning-free e k = record {
           low = omega arith;
           high = omega arith;
-          below = subst (λ (m : ℕ). m < i + 1) (sym (k [])) (better-below (columns release [] due) t best i (i + 1) (omega (arith, s .below)) (omega arith));
-          same = λ len. let job = columns release len due in
-              let rest = leftFrom marks (i + 1) (n + 1 - (i + 1)) in
-              ap (λ (m : ℕ). scan job t m rest) (k len) ∙ (scan-next job t best i rest (s .low) ∙
-              (ap (scan job t best) (sym (scan-free marks n i h (getD-set-other taken skip i true false other ∙ e))) ∙ s .same len));
+          below = subst (λ (m : ℕ). m < i + 1) (sym k) (better-below job t best i (i + 1) (omega (arith, s .below)) (omega arith));
+          same = let rest = leftFrom marks (i + 1) (n + 1 - (i + 1)) in
+              ap (λ (m : ℕ). scan job t m rest) k ∙ (scan-next job t best i rest (s .low) ∙
+              (ap (scan job t best) (sym (scan-free marks n i h (getD-set-other taken skip i true false other ∙ e))) ∙ s .same));
         }

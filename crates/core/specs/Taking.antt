@@ -13,7 +13,7 @@ use Rattle.theory.specs.Jobs.{Job}
 use Rattle.schedule.specs.declared.Desk.{Desk}
 use Rattle.schedule.specs.Rows.{withoutAll}
 use Rattle.schedule.specs.Desk.{keeps}
-use Rattle.schedule.specs.Picks.{before, decided, blockOne, blockTwo}
+use Rattle.schedule.specs.Picks.{outranks, before, decided, blockOne, blockTwo}
 use Rattle.schedule.specs.Offset.{deskAt, deskAfter}
 use Rattle.core.specs.declared.State.{State}
 use Rattle.core.specs.declared.Plan.{Plan}
@@ -32,6 +32,10 @@ pub record Going (n : ℕ) (s : State) : Type 0 where
   pub lates : s .desk .worst ≤ 2157483648 + 30000 * s .count
 
 module _ (job : ℕ → Job) where
+  -- The one of two rows that outranks the other.
+  unfoldable pub ranked : ℕ → ℕ → ℕ
+  ranked i j = cond (outranks job j i) j i
+
   -- The one of two rows that goes before the other; 0, which is no row, gives way to any.
   unfoldable pub better : ℕ → ℕ → ℕ → ℕ
   better t i j = cond (eqb i 0) j (cond (before job t j i) j i)

@@ -2,7 +2,7 @@
 // Rows are numbered from 1, so columns have 257 places; 0 stands for no row. Latenesses and bounds are raised by 2^31.
 ghost use mathlib.Core.Path.{_≡_};
 ghost use mathlib.Core.Bool.{true, false, _||_};
-ghost use mathlib.Core.List.{List, List·Memᴰ, _++_};
+ghost use mathlib.Core.List.{List·Memᴰ, _++_};
 ghost use Prim.Native.Nat.{ℕ, _+_, _-_, _≤_, _<_};
 ghost use lib.Dec.{leb, eqb};
 ghost use lib.ListN.{getD, take, drop, set};
@@ -11,7 +11,7 @@ ghost use Rattle.schedule.specs.Picks.{firstPick, decided, run, block};
 ghost use Rattle.schedule.specs.Promise.{Agreeing};
 ghost use Rattle.schedule.specs.Offset.{lowered};
 ghost use Rattle.core.specs.Columns.{columns, Limits, left};
-ghost use Rattle.core.specs.Taking.{startAt, Going, better, takeRow, After, blockFor};
+ghost use Rattle.core.specs.Taking.{startAt, Going, ranked, better, takeRow, After, blockFor};
 ghost use Rattle.core.specs.Answers.{Searched, Paired, Ordered, Followed, placeOf, putPair, Listed};
 
 // The planner's state: the desk, and the rows taken so far, marked and in order.
@@ -44,10 +44,49 @@ pub struct Front {
 // The largest bound: the largest signed 32-bit number, raised by 2^31.
 const LARGEST_BOUND: u32 = 4_294_967_295;
 
-// The one of two rows that goes before the other at the minute t: ready first, then due first, then the smaller row. 0 gives way to any row.
-fn better_row(release: &[u32; 257], due: &[u32; 257], t: u32, i: usize, j: usize) -> usize
+// Of two rows that are equal picks, the one that outranks the other: due first, then the smaller release plus length, then the smaller row.
+fn tied_row(
+    release: &[u32; 257],
+    length: &[u32; 257],
+    due: &[u32; 257],
+    i: usize,
+    j: usize,
+) -> usize
+    requires { ⌜ Limits (columns (now release) (now length) (now due)) ⌝ }
     requires { ⌜ (i < 257) × (j < 257) ⌝ }
-    ensures { λ r. ⌜ ((length : List ℕ) → r ≡ better (columns (now (release .entry)) length (now (due .entry))) t i j) ⌝ }
+    ensures { λ r. ⌜ r ≡ ranked (columns (now (release .entry)) (now (length .entry)) (now (due .entry))) i j ⌝ }
+{
+    let d = due[i];
+    let e = due[j];
+    if e < d {
+        return j;
+    }
+    if d < e {
+        return i;
+    }
+    let p = release[i] + length[i];
+    let q = release[j] + length[j];
+    if q < p {
+        return j;
+    }
+    if p < q {
+        return i;
+    }
+    if j < i { j } else { i }
+}
+
+// The one of two rows that goes before the other at the minute t: ready first, then by rank. 0 gives way to any row.
+fn better_row(
+    release: &[u32; 257],
+    length: &[u32; 257],
+    due: &[u32; 257],
+    t: u32,
+    i: usize,
+    j: usize,
+) -> usize
+    requires { ⌜ Limits (columns (now release) (now length) (now due)) ⌝ }
+    requires { ⌜ (i < 257) × (j < 257) ⌝ }
+    ensures { λ r. ⌜ r ≡ better (columns (now (release .entry)) (now (length .entry)) (now (due .entry))) t i j ⌝ }
 {
     if i == 0 {
         return j;
@@ -60,35 +99,29 @@ fn better_row(release: &[u32; 257], due: &[u32; 257], t: u32, i: usize, j: usize
     if a < b {
         return i;
     }
-    let d = due[i];
-    let e = due[j];
-    if e < d {
-        return j;
-    }
-    if d < e {
-        return i;
-    }
-    if j < i { j } else { i }
+    tied_row(release, length, due, i, j)
 }
 
 // The first pick among the rows 1 to n that are not taken, passing over the row `skip` (0 for none); or 0 where there is none.
 fn pick(
     release: &[u32; 257],
+    length: &[u32; 257],
     due: &[u32; 257],
     taken: &[bool; 257],
     skip: usize,
     n: usize,
     t: u32,
 ) -> usize
+    requires { ⌜ Limits (columns (now release) (now length) (now due)) ⌝ }
     requires { ⌜ (n ≤ 256) × (lib.ListN.length (now taken) ≡ 257) ⌝ }
-    ensures { λ r. ⌜ ((length : List ℕ) → r ≡ firstPick (columns (now (release .entry)) length (now (due .entry))) t (left (set (now (taken .entry)) skip true) n)) ⌝ }
+    ensures { λ r. ⌜ r ≡ firstPick (columns (now (release .entry)) (now (length .entry)) (now (due .entry))) t (left (set (now (taken .entry)) skip true) n) ⌝ }
 {
     let mut best: usize = 0;
     let mut i: usize = 1;
     while i <= n {
         if i != skip {
             if !taken[i] {
-                best = better_row(release, due, t, best, i);
+                best = better_row(release, length, due, t, best, i);
             }
         }
         i += 1;
@@ -152,11 +185,11 @@ fn run_on(
     let mut s = begin;
     loop {
         let t = s.desk.minute;
-        let i = pick(release, due, &s.taken, 0, n, t);
+        let i = pick(release, length, due, &s.taken, 0, n, t);
         if i == 0 {
             return s;
         }
-        let j = pick(release, due, &s.taken, i, n, t);
+        let j = pick(release, length, due, &s.taken, i, n, t);
         if !decided_by(due, i, j) {
             return s;
         }
@@ -197,12 +230,12 @@ fn next_block(
         (blockFor (columns (now (release .entry)) (now (length .entry)) (now (due .entry))) (lowered bound) (s .desk .minute) (left (s .taken) n)) r ⌝ }
 {
     let t = s.desk.minute;
-    let i = pick(release, due, &s.taken, 0, n, t);
+    let i = pick(release, length, due, &s.taken, 0, n, t);
     let one = block_on(release, length, due, n, s, i);
     if one.desk.worst <= bound {
         return one;
     }
-    let j = pick(release, due, &s.taken, i, n, t);
+    let j = pick(release, length, due, &s.taken, i, n, t);
     block_on(release, length, due, n, s, j)
 }
 

@@ -8,7 +8,7 @@ use mathlib.Core.List.{List, [], _∷_, List·Memᴰ, List·Memᴰ·head, List·
 use mathlib.Core.Logic.{_⊎_, inl, inr}
 use lib.Dec.{T, ltb, ltb→lt, nltb→le}
 use Rattle.theory.specs.Jobs.{Job, ready, finish}
-use Rattle.schedule.specs.Picks.{ahead, before, leastOf, firstPick, decided, others, runFor}
+use Rattle.schedule.specs.Picks.{ahead, earliestEnd, outranks, before, leastOf, firstPick, decided, others, runFor}
 use Rattle.schedule.proofs.Tests.{Compared, compared}
 
 module _ (job : ℕ → Job) where
@@ -40,46 +40,69 @@ module _ (job : ℕ → Job) where
   pub record Ahead (t i j : ℕ) : Type 0 where
     pub by-ready : ready (job i) t ≤ ready (job j) t
     pub by-due : ready (job j) t ≤ ready (job i) t → job i .due ≤ job j .due
-    pub by-row : ready (job j) t ≤ ready (job i) t → job j .due ≤ job i .due → i ≤ j
+    pub by-end : ready (job j) t ≤ ready (job i) t → job j .due ≤ job i .due → earliestEnd (job i) ≤ earliestEnd (job j)
+    pub by-row : ready (job j) t ≤ ready (job i) t → job j .due ≤ job i .due → earliestEnd (job j) ≤ earliestEnd (job i) → i ≤ j
+
+  -- Ahead by one comparison, the ones before it being equal.
+  ready-ahead : {t i j : ℕ} → ready (job i) t < ready (job j) t → Ahead t i j
+  ready-ahead l = record { by-ready = omega arith; by-due = λ h. omega arith; by-end = λ h g. omega arith; by-row = λ h g f. omega arith }
+
+  module _ {t i j : ℕ} (r : ready (job i) t ≡ ready (job j) t) where
+    due-ahead : job i .due < job j .due → Ahead t i j
+    due-ahead l = record { by-ready = omega arith; by-due = λ h. omega arith; by-end = λ h g. omega arith; by-row = λ h g f. omega arith }
+
+    module _ (d : job i .due ≡ job j .due) where
+      end-ahead : earliestEnd (job i) < earliestEnd (job j) → Ahead t i j
+      end-ahead l = record { by-ready = omega arith; by-due = λ h. omega arith; by-end = λ h g. omega arith; by-row = λ h g f. omega arith }
+
+      row-ahead : earliestEnd (job i) ≡ earliestEnd (job j) → i ≤ j → Ahead t i j
+      row-ahead e l = record { by-ready = omega arith; by-due = λ h. omega arith; by-end = λ h g. omega arith; by-row = λ h g f. omega arith }
 
   pub ahead-refl : (t i : ℕ) → Ahead t i i
-  ahead-refl t i = record { by-ready = omega arith; by-due = λ h. omega arith; by-row = λ h g. omega arith }
+  ahead-refl t i = row-ahead refl refl refl (omega arith)
 
   pub ahead-trans : {t i j k : ℕ} → Ahead t i j → Ahead t j k → Ahead t i k
-  ahead-trans a b = record {
+  ahead-trans {t} {i} {j} {k} a b = record {
     by-ready = omega (arith, a .by-ready, b .by-ready);
-    by-due = λ h. omega (arith, a .by-due (omega (arith, b .by-ready)), b .by-due (omega (arith, a .by-ready)));
-    by-row = λ h g. omega (arith, a .by-row (omega (arith, b .by-ready)) (omega (arith, b .by-due (omega (arith, a .by-ready)))), b .by-row (omega (arith, a .by-ready)) (omega (arith, a .by-due (omega (arith, b .by-ready)))));
+    by-due = λ h. omega (arith, a .by-due (readies h .0), b .by-due (readies h .1));
+    by-end = λ h g. omega (arith, a .by-end (readies h .0) (dues h g .0), b .by-end (readies h .1) (dues h g .1));
+    by-row = λ h g f. omega (arith, a .by-row (readies h .0) (dues h g .0) (ends h g f .0), b .by-row (readies h .1) (dues h g .1) (ends h g f .1));
   }
+    where
+      -- Where i and k are equal, j is equal to both.
+      readies : ready (job k) t ≤ ready (job i) t → (ready (job j) t ≤ ready (job i) t) × (ready (job k) t ≤ ready (job j) t)
+      readies h = (omega (arith, b .by-ready), omega (arith, a .by-ready))
+
+      dues : ready (job k) t ≤ ready (job i) t → job k .due ≤ job i .due → (job j .due ≤ job i .due) × (job k .due ≤ job j .due)
+      dues h g = (omega (arith, b .by-due (readies h .1)), omega (arith, a .by-due (readies h .0)))
+
+      ends : ready (job k) t ≤ ready (job i) t → job k .due ≤ job i .due → earliestEnd (job k) ≤ earliestEnd (job i) →
+          (earliestEnd (job j) ≤ earliestEnd (job i)) × (earliestEnd (job k) ≤ earliestEnd (job j))
+      ends h g f = (omega (arith, b .by-end (readies h .1) (dues h g .1)), omega (arith, a .by-end (readies h .0) (dues h g .0)))
 
   -- The test says which of two rows is ahead.
-  pub before-ahead : (t i j : ℕ) → T (before job t i j) → Ahead t i j
-  unfolding before
-  before-ahead t i j = go (compare (ready (job i) t) (ready (job j) t)) (compare (job i .due) (job j .due))
-      (compared (ready (job i) t) (ready (job j) t)) (compared (job i .due) (job j .due))
-    where
-      go : (o p : Ordering) → Compared (ready (job i) t) (ready (job j) t) o → Compared (job i .due) (job j .due) p → T (ahead o (ahead p (ltb i j))) → Ahead t i j
-      go Ordering·lt p c d h = record { by-ready = omega arith; by-due = λ g. omega arith; by-row = λ g f. omega arith }
-      go Ordering·eq Ordering·lt c d h = record { by-ready = omega arith; by-due = λ g. omega arith; by-row = λ g f. omega arith }
-      go Ordering·eq Ordering·eq c d h =
-          let l : i < j = ltb→lt i j h in
-          record { by-ready = omega arith; by-due = λ g. omega arith; by-row = λ g f. omega arith }
-      go Ordering·eq Ordering·gt c d h = absurd h
-      go Ordering·gt p c d h = absurd h
+  module _ (t i j : ℕ) where
+    decides : (o p q : Ordering) → Compared (ready (job i) t) (ready (job j) t) o → Compared (job i .due) (job j .due) p → Compared (earliestEnd (job i)) (earliestEnd (job j)) q →
+        let b = ahead o (ahead p (ahead q (ltb i j))) in (T b → Ahead t i j) × (T (not b) → Ahead t j i)
+    decides Ordering·lt p q c d e = (λ h. ready-ahead c, λ h. absurd h)
+    decides Ordering·gt p q c d e = (λ h. absurd h, λ h. ready-ahead c)
+    decides Ordering·eq Ordering·lt q c d e = (λ h. due-ahead c d, λ h. absurd h)
+    decides Ordering·eq Ordering·gt q c d e = (λ h. absurd h, λ h. due-ahead (sym c) d)
+    decides Ordering·eq Ordering·eq Ordering·lt c d e = (λ h. end-ahead c d e, λ h. absurd h)
+    decides Ordering·eq Ordering·eq Ordering·gt c d e = (λ h. absurd h, λ h. end-ahead (sym c) (sym d) e)
+    decides Ordering·eq Ordering·eq Ordering·eq c d e =
+        (λ h. let l : i < j = ltb→lt i j h in row-ahead c d e (omega arith), λ h. row-ahead (sym c) (sym d) (sym e) (nltb→le i j h))
 
-  pub not-before-ahead : (t i j : ℕ) → T (not (before job t i j)) → Ahead t j i
-  unfolding before
-  not-before-ahead t i j = go (compare (ready (job i) t) (ready (job j) t)) (compare (job i .due) (job j .due))
-      (compared (ready (job i) t) (ready (job j) t)) (compared (job i .due) (job j .due))
-    where
-      go : (o p : Ordering) → Compared (ready (job i) t) (ready (job j) t) o → Compared (job i .due) (job j .due) p → T (not (ahead o (ahead p (ltb i j)))) → Ahead t j i
-      go Ordering·lt p c d h = absurd h
-      go Ordering·eq Ordering·lt c d h = absurd h
-      go Ordering·eq Ordering·eq c d h =
-          let l : j ≤ i = nltb→le i j h in
-          record { by-ready = omega arith; by-due = λ g. omega arith; by-row = λ g f. omega arith }
-      go Ordering·eq Ordering·gt c d h = record { by-ready = omega arith; by-due = λ g. omega arith; by-row = λ g f. omega arith }
-      go Ordering·gt p c d h = record { by-ready = omega arith; by-due = λ g. omega arith; by-row = λ g f. omega arith }
+    tested : (T (before job t i j) → Ahead t i j) × (T (not (before job t i j)) → Ahead t j i)
+    unfolding before outranks
+    tested = decides (compare (ready (job i) t) (ready (job j) t)) (compare (job i .due) (job j .due)) (compare (earliestEnd (job i)) (earliestEnd (job j)))
+        (compared (ready (job i) t) (ready (job j) t)) (compared (job i .due) (job j .due)) (compared (earliestEnd (job i)) (earliestEnd (job j)))
+
+    pub before-ahead : T (before job t i j) → Ahead t i j
+    before-ahead = tested .0
+
+    pub not-before-ahead : T (not (before job t i j)) → Ahead t j i
+    not-before-ahead = tested .1
 
   -- The pick is ahead of every row left over.
   same-ahead : {t i k : ℕ} → k ≡ i → Ahead t i k

@@ -1,6 +1,6 @@
 -- The order for a bound: picks, runs and blocks among the rows left over.
 -- `job` says of each row number what planning sees of the row, t is the desk's minute, `left` the rows left over. Rests on: Rows, Desk.
-use Prim.Native.Nat.{ℕ, zero, suc, compare, Ordering, Ordering·lt, Ordering·eq, Ordering·gt}
+use Prim.Native.Nat.{ℕ, zero, suc, _+_, compare, Ordering, Ordering·lt, Ordering·eq, Ordering·gt}
 use mathlib.Core.Bool.{Bool, true, false, cond, _||_}
 use mathlib.Core.List.{List, [], _∷_, _++_}
 use mathlib.Core.Option.{Option, none, some}
@@ -22,10 +22,18 @@ unfoldable pub joined : List ℕ → Option (List ℕ) → Option (List ℕ)
 joined done none = none
 joined done (some rest) = some (done ++ rest)
 
+-- Release plus length: the earliest end of a job.
+abbrev pub earliestEnd : Job → ℕ
+earliestEnd j = j .release + j .length
+
 module _ (job : ℕ → Job) where
-  -- Row i goes before row j at minute t: the least ready minute, then the smaller due, then the smaller row.
+  -- Equal picks are decided by rank. Row i outranks row j: the smaller due, then the smaller release plus length, then the smaller row.
+  unfoldable pub outranks : ℕ → ℕ → Bool
+  outranks i j = ahead (compare (job i .due) (job j .due)) (ahead (compare (earliestEnd (job i)) (earliestEnd (job j))) (ltb i j))
+
+  -- Row i goes before row j at minute t: the least ready minute, then rank.
   unfoldable pub before : ℕ → ℕ → ℕ → Bool
-  before t i j = ahead (compare (ready (job i) t) (ready (job j) t)) (ahead (compare (job i .due) (job j .due)) (ltb i j))
+  before t i j = ahead (compare (ready (job i) t) (ready (job j) t)) (outranks i j)
 
   unfoldable pub leastOf : ℕ → ℕ → List ℕ → ℕ
   leastOf t i [] = i
@@ -97,5 +105,5 @@ module _ (job : ℕ → Job) where
 
 -- Opens every definition of this file: name it on an `unfolding` line where all is to be computed.
 unfoldable pub openPicks : Unit {0}
-unfolding ready joined before leastOf firstPick others secondPick decided runFor run block blockOne blockTwo blocksFor orderFor
+unfolding ready joined outranks before leastOf firstPick others secondPick decided runFor run block blockOne blockTwo blocksFor orderFor
 openPicks = tt

@@ -1,7 +1,6 @@
 // The desk of one reader: rows, and the desk's minute and worst lateness while rows are taken one after another.
 ghost use mathlib.Core.Path.{_≡_};
 ghost use Prim.Native.Nat.{_≤_, max};
-ghost use Rattle.theory.specs.Jobs.{Job};
 ghost use Rattle.schedule.specs.Offset.{raised, lowered, deskAt, deskAfter};
 
 // The turnaround class that a transcript was sold by, or that it was sold by none.

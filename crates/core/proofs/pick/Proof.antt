@@ -5,20 +5,21 @@ use Prim.Native.Nat.{_+_, _-_}
 use mathlib.Core.Path.{_∙_}
 use mathlib.Core.Logic.{⊎-elim}
 use borrow.Author.Tests.{not-true, not-false}
+use Rattle.core.specs.Columns.{columns}
 use Rattle.core.proofs.Picks.{Scanning, scanning-first, scanning-skipped, scanning-taken, scanning-free, scanning-last}
 use Rattle.core.proofs.pick.Statement.{statement}
 use Rattle.core.proofs.pick.Tie as tie
 
 abbrev Inv-loop : tie.InvT-loop
-Inv-loop release due taken skip n t best₀ i₀ best i = Scanning release due taken skip n t best i
+Inv-loop release length due taken skip n t best₀ i₀ best i = Scanning (columns release length due) taken skip n t best i
 
 abbrev μ-loop : tie.MeasureT-loop
-μ-loop release due taken skip n t best₀ i₀ best i = n + 1 - i
+μ-loop release length due taken skip n t best₀ i₀ best i = n + 1 - i
 
 loop-holds : tie.Need-loop-holds Inv-loop μ-loop
 loop-holds c =
     let a = c .args in
-    scanning-first (a .release .now) (a .due .now) (a .taken .now) (a .skip) (a .n) (a .t)
+    scanning-first (columns (a .release .now) (a .length .now) (a .due .now)) (a .taken .now) (a .skip) (a .n) (a .t)
 
 element-copy-out-if2 : tie.Need-element-copy-out-if2 Inv-loop μ-loop
 element-copy-out-if2 c = search needs
@@ -38,17 +39,17 @@ loop-again c =
     let l = c .before .before .loop in
     let h = c .before .loop-test .taken in
     let b = c .if1 .best in
-    ⊎-elim (λ w. scanning-free (a .release .now) (a .due .now) (a .taken .now) (a .skip) (a .n) (a .t) (l .best) (l .i) (l .inv) h b (w .0 .taken) (not-true _ (w .2 .taken)) (λ len. w .4 ∙ w .3 .ensures len))
+    ⊎-elim (λ w. scanning-free (columns (a .release .now) (a .length .now) (a .due .now)) (a .taken .now) (a .skip) (a .n) (a .t) (l .best) (l .i) (l .inv) h b (w .0 .taken) (not-true _ (w .2 .taken)) (w .4 ∙ w .3 .ensures))
     (⊎-elim
-    (λ w. scanning-taken (a .release .now) (a .due .now) (a .taken .now) (a .skip) (a .n) (a .t) (l .best) (l .i) (l .inv) h b (w .0 .taken) (not-false _ (w .2 .left)) (w .3))
-    (λ w. scanning-skipped (a .release .now) (a .due .now) (a .taken .now) (a .skip) (a .n) (a .t) (l .best) (l .i) (l .inv) h b (c .before .before .before .pre .1) (c .before .before .before .pre .0) (w .0 .left) (w .1)))
+    (λ w. scanning-taken (columns (a .release .now) (a .length .now) (a .due .now)) (a .taken .now) (a .skip) (a .n) (a .t) (l .best) (l .i) (l .inv) h b (w .0 .taken) (not-false _ (w .2 .left)) (w .3))
+    (λ w. scanning-skipped (columns (a .release .now) (a .length .now) (a .due .now)) (a .taken .now) (a .skip) (a .n) (a .t) (l .best) (l .i) (l .inv) h b (c .before .before .before .pre .1 .1) (c .before .before .before .pre .1 .0) (w .0 .left) (w .1)))
     (c .if1 .came)
 
 returns : tie.Need-returns Inv-loop μ-loop
 returns c =
     let a = c .before .before .args in
     let l = c .before .loop in
-    scanning-last (a .release .now) (a .due .now) (a .taken .now) (a .skip) (a .n) (a .t) (l .best) (l .i) (l .inv) (c .loop-test .left)
+    scanning-last (columns (a .release .now) (a .length .now) (a .due .now)) (a .taken .now) (a .skip) (a .n) (a .t) (l .best) (l .i) (l .inv) (c .loop-test .left)
 
 pub pick-spec : {M : Type 1} → statement M
 pick-spec =
