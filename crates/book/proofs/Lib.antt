@@ -6,6 +6,7 @@ pub mod Reached
 pub mod Whole
 pub mod Readings
 pub mod Places
+pub mod Disorder
 pub mod Accepted
 pub mod OneClass
 pub mod Numbered

@@ -15,7 +15,7 @@ use Rattle.book.specs.Refusals.{refuseIf, _then_}
 use Rattle.book.specs.Words.{value, word, kindTests, wordTests}
 use Rattle.book.specs.Due.{classOf, testsBy}
 use Rattle.book.specs.Rows.{Contents, refused, accepted, refusedOr, numbersOf, numberTests, rowTests, rowOf, endStands, endTests, readRows}
-use Rattle.book.specs.Order.{orderTests}
+use Rattle.book.specs.Order.{disorderFrom, orderTests}
 use Rattle.book.specs.Book.{headTests, inOrder, readWords, readBook}
 use Rattle.book.proofs.Tests.{Says, if-says, then-says}
 
@@ -81,16 +81,15 @@ rows-read (suc n) free pace rows place ws = step (endStands (length rows) ws) (r
     step true h = by-contents (endTests (length rows) place ws) (accepted free rows) (ends (length rows) place ws) tt
     step false h = by-contents (rowTests (numbersOf rows) place ws) (readRows n free pace (rows ++ (rowOf pace ws ∷ [])) (place + 4) (drop 4 ws)) (row (numbersOf rows) place ws) h
 
-order : (place : ℕ) (rows : List Row) → Numbered (orderTests place rows)
-unfolding orderTests
-order place [] = tt
-order place (r ∷ []) = tt
-order place (r ∷ s ∷ rows) = by-either _ _ (by-test _ _ (omega arith, omega arith)) (order (place + 4) (s ∷ rows))
+order : (place : ℕ) (above rows : List Row) → Numbered (disorderFrom place above rows)
+unfolding disorderFrom
+order place above [] = tt
+order place above (r ∷ rows) = by-either _ _ (by-test _ _ (omega arith, omega arith)) (order (place + 4) (above ++ (r ∷ [])) rows)
 
 ordered : (c : Contents) → NumberedBook c → NumberedBook (inOrder c)
 unfolding inOrder
 ordered (refused n p) h = h
-ordered (accepted free rows) h = by-contents (orderTests 2 rows) (accepted free rows) (order 2 rows) tt
+ordered (accepted free rows) h = by-contents (orderTests rows) (accepted free rows) (order 2 [] rows) tt
 
 pub book-numbered : (ws : List ℕ) (n p : ℕ) → readBook ws ≡ refused n p → (1 ≤ n) × (n ≤ 8)
 unfolding readBook readWords headTests

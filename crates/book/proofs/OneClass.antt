@@ -1,44 +1,43 @@
--- A book of one class whose dues do not fall from row to row never meets disorder: each row's spare is the class's margin.
+-- A book of one class never meets disorder: each row's spare is the class's margin, so none is smaller.
 -- Assumes nothing.
-use Prim.Native.Nat.{ℕ, suc, _+_, _≤_, _<_}
+use Prim.Native.Nat.{ℕ, _+_}
 use native.Mathlib.Omega.{arith}
-use mathlib.Core.Bool.{false}
+use mathlib.Core.Bool.{Bool, true, false, _&&_}
 use mathlib.Core.Path.{_≡_, refl}
-use mathlib.Core.List.{List, [], _∷_, List·Memᴰ}
-use lib.ListN.{length, getD}
+use mathlib.Core.List.{List, List·Memᴰ}
+use lib.Dec.{ltb}
 use borrow.Author.Tests.{le-ltb}
 use Rattle.schedule.specs.declared.Row.{Row}
 use Rattle.schedule.specs.declared.Class.the-variants.{Of}
-use Rattle.schedule.specs.Rows.{noRow, allRows}
-use Rattle.schedule.proofs.Numbers.{from-mem}
+use Rattle.schedule.specs.Rows.{row, allRows}
 use Rattle.book.specs.declared.Tested.the-variants.{Passed}
-use Rattle.book.specs.Refusals.{refuseIf, _then_}
-use Rattle.book.specs.Order.{disordered, orderTests}
-use Rattle.book.specs.Book.{inOrder, readBook}
+use Rattle.book.specs.Due.{ClassDue}
+use Rattle.book.specs.Order.{tighter, disagree}
 use Rattle.book.specs.OneClass.{OneClass}
 use Rattle.book.proofs.Signed.{ltZ-sums}
-use Rattle.book.proofs.Whole.{RowRanged, AllRanged, whole-words}
+use Rattle.book.proofs.Whole.{whole-words, by-number}
+use Rattle.book.proofs.Disorder.{agree-passes, read-by}
 
--- Two rows of one class, the lower one due no sooner, are in order.
-in-order : (c : ℕ) (r s : Row) → RowRanged r → RowRanged s → r .class ≡ Of c → s .class ≡ Of c → r .due ≤ s .due → disordered r s ≡ false
-unfolding disordered
-in-order c r s f g e h l =
-    rw (le-ltb (s .due) (r .due) l, ltZ-sums (r .due) (r .release + r .length) (s .due) (s .release + s .length))
-    (le-ltb (r .due + (s .release + s .length)) (s .due + (r .release + r .length)) (omega (arith, f .class c e .1, g .class c h .1)))
+and-false : (b : Bool) → (b && false) ≡ false
+and-false true = refl
+and-false false = refl
 
--- Rows of one class whose dues do not fall pass the test of the order.
-pub passes : (c place : ℕ) (rows : List Row) → AllRanged rows → ((i : ℕ) → i < length rows → getD rows i noRow .class ≡ Of c) →
-    ((i : ℕ) → suc i < length rows → getD rows i noRow .due ≤ getD rows (suc i) noRow .due) → orderTests place rows ≡ Passed
-unfolding orderTests refuseIf _then_
-passes c place [] f e h = refl
-passes c place (r ∷ []) f e h = refl
-passes c place (r ∷ s ∷ rows) f e h =
-    rw (in-order c r s (f 0 (omega arith)) (f 1 (omega arith)) (e 0 (omega arith)) (e 1 (omega arith)) (h 0 (omega arith)))
-    (passes c (place + 4) (s ∷ rows) (λ i l. f (suc i) (omega arith)) (λ i l. e (suc i) (omega arith)) (λ i l. h (suc i) (omega arith)))
+-- Of two rows of one class neither has the smaller spare.
+module _ (c : ℕ) (r s : Row) (f : ClassDue r) (g : ClassDue s) (e : r .class ≡ Of c) (h : s .class ≡ Of c) where
+  not-tighter : tighter r s ≡ false
+  unfolding tighter
+  not-tighter =
+      rw (
+        ltZ-sums (r .due) (r .release + r .length) (s .due) (s .release + s .length),
+        le-ltb (r .due + (s .release + s .length)) (s .due + (r .release + r .length)) (omega (arith, f c e .1, g c h .1)),
+      )
+      (and-false (ltb (r .due) (s .due)))
+
+class-agrees : (c : ℕ) (r s : Row) → ClassDue r → ClassDue s → r .class ≡ Of c → s .class ≡ Of c → disagree r s ≡ false
+unfolding disagree
+class-agrees c r s f g e h = rw (not-tighter c r s f g e h, not-tighter c s r g f h e)
 
 pub one-class : OneClass
-unfolding readBook inOrder
-one-class book c free rows reads same rises =
-    let there : (i : ℕ) → i < length rows → List·Memᴰ (suc i) (allRows rows) = λ i l. from-mem (suc i) 1 (length rows) (omega arith) (omega arith) in
-    let p = passes c 2 rows (whole-words book free rows reads .ranged) (λ i l. same (suc i) (there i l)) (λ i l. rises (suc i) (there i (omega arith)) (there (suc i) l)) in
-    rw (reads, p)
+one-class book c free rows reads same =
+    let due : (i : ℕ) → List·Memᴰ i (allRows rows) → ClassDue (row rows i) = λ i m. by-number rows (whole-words book free rows reads .ranged) i m .class in
+    read-by book free rows reads Passed (agree-passes rows (λ i j m n. class-agrees c _ _ (due i m) (due j n) (same i m) (same j n)))

@@ -36,10 +36,10 @@ unfolding readingOf inOrder
 order-refused (refused m q) n p e = refl
 order-refused (accepted free rows) n p e = never (cc)
 
-pub order-settled : (x : Contents) → readingOf x .outcome ≡ Passed → settledOf (orderTests 2 (tableRows (readingOf x .table))) (readingOf x .table) ≡ readingOf (inOrder x)
+pub order-settled : (x : Contents) → readingOf x .outcome ≡ Passed → settledOf (orderTests (tableRows (readingOf x .table))) (readingOf x .table) ≡ readingOf (inOrder x)
 unfolding readingOf inOrder
 order-settled (refused m q) e = never (cc)
-order-settled (accepted free rows) e = rw (table-rows free rows) (go (orderTests 2 rows))
+order-settled (accepted free rows) e = rw (table-rows free rows) (go (orderTests rows))
   where
     go : (o : Tested) → settledOf o (tableOf free rows) ≡ readingOf (refusedOr o (accepted free rows))
     go Passed = refl

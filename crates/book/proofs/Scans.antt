@@ -1,55 +1,51 @@
--- The scans step by step: for an earlier number, and for a row in disorder with the row above it.
+-- The scans step by step: for an entry that passes a test, and for a row that disagrees with a row above it.
 -- Assumes nothing.
-use Prim.Native.Nat.{ℕ, suc, _+_, _≤_, _<_}
+use Prim.Native.Nat.{ℕ, suc, _+_, _*_, _≤_, _<_}
 use native.Mathlib.Omega.{arith}
 use native.Mathlib.Numerals.{add-one}
-use mathlib.Core.Bool.{true, false}
-use mathlib.Core.Path.{_≡_, refl, sym, ap, _∙_}
-use mathlib.Core.List.{List, [], _∷_}
-use lib.ListN.{length, drop, getD, length-drop, drop-of-length-le}
-use lib.Seq.{drop-cons}
-use borrow.Author.Tests.{eq-eqb, ne-eqb}
+use mathlib.Core.Bool.{Bool, true, false}
+use mathlib.Core.Path.{_≡_, ap}
+use mathlib.Core.List.{List, [], _∷_, _++_}
+use lib.ListN.{length, take, drop, getD, drop-of-length-le}
+use lib.Seq.{take-suc, drop-cons}
 use Rattle.schedule.specs.declared.Row.{Row}
 use Rattle.schedule.specs.Rows.{noRow}
+use Rattle.book.specs.declared.Tested.{Tested}
 use Rattle.book.specs.declared.Tested.the-variants.{Passed, Refused}
 use Rattle.book.specs.Refusals.{byDisorder, refuseIf, _then_}
-use Rattle.book.specs.Rows.{stands}
-use Rattle.book.specs.Order.{disordered, orderTests}
+use Rattle.book.specs.Rows.{any}
+use Rattle.book.specs.Order.{disagree, disorderFrom}
 
--- The scan for a number: it stands at i; it does not; the numbers are passed.
-module _ (n : ℕ) (ms : List ℕ) (i : ℕ) where
-  pub stands-here : i < length ms → n ≡ getD ms i 0 → stands n (drop i ms) ≡ true
-  unfolding stands
-  stands-here h e = rw (drop-cons ms i 0 h, eq-eqb _ _ e)
+-- The scan for an entry: the one at i passes the test; it does not; all entries are passed over.
+module _ {A : Type 0} (test : A → Bool) (xs : List A) (none : A) (i : ℕ) where
+  pub any-here : i < length xs → test (getD xs i none) ≡ true → any test (drop i xs) ≡ true
+  unfolding any
+  any-here h e = rw (drop-cons xs i none h, e)
 
-  pub stands-on : i < length ms → (n ≡ getD ms i 0 → ⊥) → stands n (drop i ms) ≡ stands n (drop (i + 1) ms)
-  unfolding stands
-  stands-on h e = rw (add-one, drop-cons ms i 0 h, ne-eqb _ _ e)
+  pub any-on : i < length xs → test (getD xs i none) ≡ false → any test (drop i xs) ≡ any test (drop (i + 1) xs)
+  unfolding any
+  any-on h e = rw (add-one, drop-cons xs i none h, e)
 
-  pub stands-end : length ms ≤ i → stands n (drop i ms) ≡ false
-  unfolding stands
-  stands-end h = rw (drop-of-length-le ms h)
+  pub any-end : length xs ≤ i → any test (drop i xs) ≡ false
+  unfolding any
+  any-end h = rw (drop-of-length-le xs h)
 
--- The scan for a disorder: it lies between the rows i and i + 1; it does not; no two rows are left.
-short : (p : ℕ) (rs : List Row) → length rs ≤ 1 → orderTests p rs ≡ Passed
-unfolding orderTests
-short p [] h = refl
-short p (r ∷ []) h = refl
-short p (r ∷ s ∷ rs) h = let x : ⊥ = omega arith in absurd x
+-- The scan for a disorder, at the row in place i, places counted from 0.
+abbrev pub disorderAt : List Row → ℕ → Tested
+disorderAt rs i = disorderFrom (4 * i + 2) (take i rs) (drop i rs)
 
-module _ (p : ℕ) (rs : List Row) (i : ℕ) where
-  two : i + 1 < length rs → drop i rs ≡ getD rs i noRow ∷ getD rs (i + 1) noRow ∷ drop (suc (i + 1)) rs
-  two h =
-      let l : i < length rs = omega arith in
-      drop-cons rs i noRow l ∙ ap (λ (l : List Row). getD rs i noRow ∷ l) (ap (λ (n : ℕ). drop n rs) (sym (add-one i)) ∙ drop-cons rs (i + 1) noRow h)
+-- The row disagrees with a row above it; with none; no row is left.
+module _ (rs : List Row) (i : ℕ) where
+  pub order-here : i < length rs → any (disagree (getD rs i noRow)) (take i rs) ≡ true → disorderAt rs i ≡ Refused byDisorder (4 * i + 2)
+  unfolding disorderFrom refuseIf _then_
+  order-here h e = rw (drop-cons rs i noRow h, e)
 
-  pub order-here : i + 1 < length rs → disordered (getD rs i noRow) (getD rs (i + 1) noRow) ≡ true → orderTests p (drop i rs) ≡ Refused byDisorder (p + 4)
-  unfolding orderTests refuseIf _then_
-  order-here h e = rw (two h, e)
+  pub order-on : i < length rs → any (disagree (getD rs i noRow)) (take i rs) ≡ false → disorderAt rs i ≡ disorderAt rs (i + 1)
+  unfolding disorderFrom refuseIf _then_
+  order-on h e =
+      let next : 4 * i + 2 + 4 ≡ 4 * suc i + 2 = omega arith in
+      rw (drop-cons rs i noRow h, e, add-one, take-suc rs i noRow h) (ap (λ (p : ℕ). disorderFrom p (take i rs ++ (getD rs i noRow ∷ [])) (drop (suc i) rs)) next)
 
-  pub order-on : i + 1 < length rs → disordered (getD rs i noRow) (getD rs (i + 1) noRow) ≡ false → orderTests p (drop i rs) ≡ orderTests (p + 4) (drop (i + 1) rs)
-  unfolding orderTests refuseIf _then_
-  order-on h e = rw (two h, e, drop-cons rs (i + 1) noRow h)
-
-  pub order-end : length rs ≤ i + 1 → orderTests p (drop i rs) ≡ Passed
-  order-end h = short p (drop i rs) (omega (arith, length-drop i rs))
+  pub order-end : length rs ≤ i → disorderAt rs i ≡ Passed
+  unfolding disorderFrom
+  order-end h = rw (drop-of-length-le rs h)

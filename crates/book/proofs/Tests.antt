@@ -32,6 +32,10 @@ pub and-right : (a b : Bool) → (a && b) ≡ true → b ≡ true
 and-right true b e = e
 and-right false b e = never (cc)
 
+pub and-then : (a b : Bool) → a ≡ true → (a && b) ≡ false → b ≡ false
+and-then true b h e = e
+and-then false b h e = never (cc)
+
 -- Tests taken apart.
 pub then-left : (a b : Tested) → (a then b) ≡ Passed → a ≡ Passed
 unfolding _then_

@@ -5,7 +5,7 @@ use native.Mathlib.Nat.{le-div-iff-mul-le, div-lt-iff-lt-mul}
 use native.Mathlib.Omega.{arith}
 use mathlib.Core.Bool.{Bool, true, false, _&&_}
 use mathlib.Core.Path.{_≡_, refl, sym, ap, _∙_, subst}
-use mathlib.Core.List.{List, [], _∷_, _++_}
+use mathlib.Core.List.{List, [], _∷_, _++_, List·Memᴰ}
 use lib.Dec.{ltb, eqb}
 use lib.ListN.{length, drop, getD, length-drop, length-append, List·getD-append}
 use lib.Seq.{getD-at}
@@ -13,7 +13,8 @@ use borrow.Author.Tests.{ltb-true, ltb-false}
 use Rattle.schedule.specs.declared.Row.{Row}
 use Rattle.schedule.specs.declared.Class.{Class}
 use Rattle.schedule.specs.declared.Class.the-variants.{None, Of}
-use Rattle.schedule.specs.Rows.{noRow}
+use Rattle.schedule.specs.Rows.{noRow, row, allRows}
+use Rattle.schedule.proofs.Numbers.{count-range}
 use Rattle.book.specs.declared.Tested.{Tested}
 use Rattle.book.specs.declared.Tested.the-variants.{Passed, Refused}
 use Rattle.book.specs.Refusals.{byTail}
@@ -47,6 +48,10 @@ pub record RowRanged (r : Row) : Type 0 where
 
 abbrev pub AllRanged : List Row → Type 0
 AllRanged rs = (i : ℕ) → i < length rs → RowRanged (getD rs i noRow)
+
+pub by-number : (rows : List Row) → AllRanged rows → (i : ℕ) → List·Memᴰ i (allRows rows) → RowRanged (row rows i)
+by-number rows r zero m = let x : ⊥ = omega (arith, count-range 1 (length rows) m .0) in absurd x
+by-number rows r (suc i) m = r i (omega (arith, count-range 1 (length rows) m .1))
 
 -- Length lies between 1 and 30,000.
 length-least : (pages pace : ℕ) → 1 ≤ pages → 4 ≤ pace → 1 ≤ lengthOf pages pace
@@ -166,21 +171,21 @@ whole-words ws f rs e =
 order-contents : (x : Contents) (f : ℕ) (rs : List Row) → inOrder x ≡ accepted f rs → x ≡ accepted f rs
 unfolding inOrder
 order-contents (refused n p) f rs e = e
-order-contents (accepted free rows) f rs e = or-contents (orderTests 2 rows) (accepted free rows) e
+order-contents (accepted free rows) f rs e = or-contents (orderTests rows) (accepted free rows) e
 
-order-passed : (x : Contents) (f : ℕ) (rs : List Row) → inOrder x ≡ accepted f rs → orderTests 2 rs ≡ Passed
+order-passed : (x : Contents) (f : ℕ) (rs : List Row) → inOrder x ≡ accepted f rs → orderTests rs ≡ Passed
 unfolding inOrder
 order-passed (refused n p) f rs e = absurd (no-contents e)
 order-passed (accepted free rows) f rs e =
-    let k : accepted free rows ≡ accepted f rs = or-contents (orderTests 2 rows) (accepted free rows) e in
-    let o : orderTests 2 rows ≡ Passed = or-tests (orderTests 2 rows) (accepted free rows) e in
+    let k : accepted free rows ≡ accepted f rs = or-contents (orderTests rows) (accepted free rows) e in
+    let o : orderTests rows ≡ Passed = or-tests (orderTests rows) (accepted free rows) e in
     let same : rows ≡ rs = cc in
-    ap (orderTests 2) (sym same) ∙ o
+    ap orderTests (sym same) ∙ o
 
 pub whole : (ws : List ℕ) (f : ℕ) (rs : List Row) → readBook ws ≡ accepted f rs → WholeBook ws f rs
 unfolding readBook
 whole ws f rs e = whole-words ws f rs (order-contents (readWords ws) f rs e)
 
-pub ordered : (ws : List ℕ) (f : ℕ) (rs : List Row) → readBook ws ≡ accepted f rs → orderTests 2 rs ≡ Passed
+pub ordered : (ws : List ℕ) (f : ℕ) (rs : List Row) → readBook ws ≡ accepted f rs → orderTests rs ≡ Passed
 unfolding readBook
 ordered ws f rs e = order-passed (readWords ws) f rs e

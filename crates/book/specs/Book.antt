@@ -1,5 +1,5 @@
 -- The whole book: what it gives, the table that the reader makes of it, and the words of a row.
--- Rests on: Rows, Order.
+-- Rests on: Order.
 use Prim.Native.Nat.{ℕ, _+_, _-_, _*_}
 use mathlib.Core.Bool.{cond, _||_}
 use mathlib.Core.List.{List, [], _++_}
@@ -15,7 +15,7 @@ use Rattle.book.specs.declared.Found.{Found}
 use Rattle.book.specs.declared.Found.the-variants as found
 use Rattle.book.specs.Refusals.{byUnlisted, _then_}
 use Rattle.book.specs.Words.{value, word, wordTests}
-use Rattle.book.specs.Rows.{Contents, refused, accepted, refusedOr, readRows, openRows}
+use Rattle.book.specs.Rows.{Contents, refused, accepted, refusedOr, readRows}
 use Rattle.book.specs.Order.{orderTests, openOrder}
 
 -- The free minute of the desk, kind 1, 0 to 10,000,000; and the pace, kind 2, 4 to 120 pages an hour.
@@ -25,7 +25,7 @@ headTests ws = wordTests 1 0 10000000 0 ws 0 then wordTests 2 4 120 0 ws 1
 -- Disorder is tested last, once the rows are read.
 unfoldable pub inOrder : Contents → Contents
 inOrder (refused n p) = refused n p
-inOrder (accepted free rows) = refusedOr (orderTests 2 rows) (accepted free rows)
+inOrder (accepted free rows) = refusedOr (orderTests rows) (accepted free rows)
 
 -- The book: the free minute, the pace, 1 to 256 rows, the end. Tests 1 to 7; then all tests.
 unfoldable pub readWords : List ℕ → Contents
@@ -72,5 +72,5 @@ rowWords book k = wordsAt (rowPlace book k) book
 
 -- Opens every definition of the book: name it on an `unfolding` line where all is to be computed.
 unfoldable pub openBook : Unit {0}
-unfolding openRows openOrder headTests inOrder readWords readBook tableOf readingOf placeIn
+unfolding openOrder headTests inOrder readWords readBook tableOf readingOf placeIn
 openBook = tt

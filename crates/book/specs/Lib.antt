@@ -4,5 +4,6 @@ pub mod Due
 pub mod Rows
 pub mod Order
 pub mod Book
+pub mod Disorder
 pub mod Accepted
 pub mod OneClass

@@ -1,6 +1,6 @@
 -- A book of one class. The proof is `one-class`, in proofs/OneClass.antt.
 -- Rests on: Book, the schedule's Rows.
-use Prim.Native.Nat.{ℕ, suc, _≤_}
+use Prim.Native.Nat.{ℕ}
 use mathlib.Core.Path.{_≡_}
 use mathlib.Core.List.{List, List·Memᴰ}
 use Rattle.schedule.specs.declared.Row.{Row}
@@ -13,10 +13,6 @@ use Rattle.book.specs.Book.{readWords, readBook}
 abbrev pub OfClass : ℕ → List Row → Type 0
 OfClass c rows = (i : ℕ) → List·Memᴰ i (allRows rows) → row rows i .class ≡ Of c
 
--- From row to row due does not fall.
-abbrev pub DuesNeverFall : List Row → Type 0
-DuesNeverFall rows = (i : ℕ) → List·Memᴰ i (allRows rows) → List·Memᴰ (suc i) (allRows rows) → row rows i .due ≤ row rows (suc i) .due
-
--- A book of one class whose dues do not fall from row to row never meets disorder: passing tests 1 to 7, it is accepted.
+-- A book of one class never meets disorder, however its rows stand: passing tests 1 to 7, it is accepted.
 abbrev pub OneClass : Type 0
-OneClass = (book : List ℕ) (c free : ℕ) (rows : List Row) → readWords book ≡ accepted free rows → OfClass c rows → DuesNeverFall rows → readBook book ≡ accepted free rows
+OneClass = (book : List ℕ) (c free : ℕ) (rows : List Row) → readWords book ≡ accepted free rows → OfClass c rows → readBook book ≡ accepted free rows

@@ -33,7 +33,7 @@ byCount = 6
 abbrev pub byTail : ℕ
 byTail = 7
 
--- 8, disorder: due falls or spare rises from the row above.
+-- 8, disorder: two rows disagree.
 abbrev pub byDisorder : ℕ
 byDisorder = 8
 

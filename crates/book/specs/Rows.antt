@@ -24,13 +24,17 @@ abbrev pub refusedOr : Tested → Contents → Contents
 refusedOr Passed c = c
 refusedOr (Refused n p) c = refused n p
 
+-- Any entry of a list passes a test.
+unfoldable pub any : {A : Type 0} → (A → Bool) → List A → Bool
+any test [] = false
+any test (x ∷ xs) = test x || any test xs
+
 -- The order numbers of the rows read so far, and whether a number stands among them.
 abbrev pub numbersOf : List Row → List ℕ
 numbersOf rows = map (λ (r : Row). r .number) rows
 
 unfoldable pub stands : ℕ → List ℕ → Bool
-stands n [] = false
-stands n (m ∷ ms) = eqb n m || stands n ms
+stands n numbers = any (eqb n) numbers
 
 -- The number word of a row, kind 3: cut, kind, full and twice, after the numbers read so far.
 unfoldable pub numberTests : List ℕ → ℕ → List ℕ → Tested
@@ -83,5 +87,5 @@ readRows (suc more) free pace rows place ws = elim (endStands (length rows) ws) 
 
 -- Opens every definition of this file and of those that it rests on.
 unfoldable pub openRows : Unit {0}
-unfolding openDue stands numberTests rowTests rowReadOf endStands endTests readRows
+unfolding openDue any stands numberTests rowTests rowReadOf endStands endTests readRows
 openRows = tt

@@ -29,6 +29,7 @@ use Rattle.book.specs.Rows.{accepted}
 use Rattle.book.specs.Book.{readBook}
 use Rattle.book.specs.Accepted.{AcceptedBook}
 use Rattle.book.proofs.Accepted.{accepted-book, accepted-ranged}
+use Rattle.book.proofs.Disorder.{disorder}
 use Rattle.book.proofs.OneClass.{one-class}
 use Rattle.planner.specs.declared.Ordered.the-variants as ordered
 use Rattle.planner.specs.declared.Judged.the-variants as judged
@@ -56,7 +57,7 @@ module _ {free : ℕ} {rows : List Row} (a : AcceptedBook free rows) where
 
 -- Property 2.
 pub definitions-hold : Property2
-definitions-hold = record { book-accepted = λ book free rows reads. in-limits (accepted-book book free rows reads); one-class = one-class }
+definitions-hold = record { book-accepted = λ book free rows reads. in-limits (accepted-book book free rows reads); disorder = disorder; one-class = one-class }
 
 module _ (book : List ℕ) (free : ℕ) (rows : List Row) (reads : readBook book ≡ accepted free rows) where
   a : AcceptedBook free rows

@@ -22,7 +22,7 @@ use Rattle.book.proofs.Tests.{never}
 use Rattle.core.proofs.Signs.{lowered-le, lowered-lt}
 use Rattle.planner.specs.declared.Judged.the-variants as judged
 use Rattle.planner.specs.Calls.{judgedOf}
-use Rattle.book.specs.Rows.{stands}
+use Rattle.book.specs.Rows.{any, stands}
 use Rattle.planner.specs.Posting.{entryTests, postingTests}
 use Rattle.planner.specs.Working.{pairAt, pairsOf, orZero}
 use Rattle.planner.proofs.Held.{first-length, first-at}
@@ -115,11 +115,11 @@ all-false (suc n) zero = refl
 all-false (suc n) (suc i) = all-false n i
 
 pub marks-none : Marks (replicate 257 false) []
-unfolding stands
+unfolding stands any
 marks-none i = all-false 257 i
 
 pub marks-more : (seen : List Bool) (s : List ℕ) (k : ℕ) → k < length seen → Marks seen s → Marks (set seen k true) (k ∷ s)
-unfolding stands
+unfolding stands any
 marks-more seen s k h m i = go (ℕ-discrete i k)
   where
     go : Dec (i ≡ k) → getD (set seen k true) i false ≡ (eqb i k || stands i s)

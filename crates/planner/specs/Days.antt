@@ -1,4 +1,4 @@
--- The days worked through, M1 to M13 and days with classes: a table of questions and expected answers, and the theorem that every entry holds of the definitions.
+-- The days worked through, M1 to M13, days with classes and days with rows as they arrive: a table of questions and expected answers, and the theorem that every entry holds of the definitions.
 -- Rests on: Calls, Lines, the book.
 use Prim.Native.Nat.{ℕ, _+_, _*_}
 use mathlib.Core.Path.{_≡_, refl, sym, ap, _∙_}
@@ -43,9 +43,12 @@ entryWords (sold n r p c ∷ es) = wordOf 3 n ∷ wordOf 4 r ∷ wordOf 5 p ∷ 
 abbrev pub book : (free pace : ℕ) → List Entry → List ℕ
 book free pace es = wordOf 1 free ∷ wordOf 2 pace ∷ (entryWords es ++ (wordOf 7 (length es) ∷ []))
 
--- M1's book, with the due of row 2 open for M7 and M8; M2 to M6; M9; M10; M13.
+-- M1's book, with the due of row 2 open for M7 and M8, also with its rows swapped; M2 to M6; M9; M10; M13, also with its rows mixed.
 abbrev pub twoRows : ℕ → List ℕ
 twoRows due = book 0 60 (entry 901 1 1 5 ∷ entry 902 0 10 due ∷ [])
+
+abbrev pub swappedRows : ℕ → List ℕ
+swappedRows due = book 0 60 (entry 902 0 10 due ∷ entry 901 1 1 5 ∷ [])
 
 abbrev pub threeRows : List ℕ
 threeRows = book 0 60 (entry 901 1 1 5 ∷ entry 902 0 10 12 ∷ entry 903 20 5 27 ∷ [])
@@ -58,6 +61,16 @@ equalRows = book 0 60 (entry 901 0 2 5 ∷ entry 902 0 2 5 ∷ [])
 
 abbrev pub fourRows : List ℕ
 fourRows = book 0 60 (entry 901 1 1 5 ∷ entry 902 0 10 12 ∷ entry 903 101 1 104 ∷ entry 904 100 20 122 ∷ [])
+
+abbrev pub mixedRows : List ℕ
+mixedRows = book 0 60 (entry 904 100 20 122 ∷ entry 901 1 1 5 ∷ entry 903 101 1 104 ∷ entry 902 0 10 12 ∷ [])
+
+-- Three rows, of which the third disagrees with the first alone. Two rows due at 30 and released before the desk is free at 10.
+abbrev pub apartRows : List ℕ
+apartRows = book 0 60 (entry 901 0 5 10 ∷ entry 902 0 18 20 ∷ entry 903 0 7 15 ∷ [])
+
+abbrev pub tiedRows : (release pages release′ pages′ : ℕ) → List ℕ
+tiedRows release pages release′ pages′ = book 10 60 (entry 901 release pages 30 ∷ entry 902 release′ pages′ 30 ∷ [])
 
 -- One row of a class; M1's first row of class 0 above a row with a due; two rows of one class, whose dues fall or not.
 abbrev pub classRow : ℕ → List ℕ
@@ -187,7 +200,20 @@ days =
     (wordsOf classAndDue 1 gets words (wordOf 3 901 ∷ wordOf 4 1 ∷ wordOf 5 1 ∷ wordOf 0 0 ∷ [])) ∷
     -- Two rows of class 1: the second is due with the first, or a minute sooner.
     (plan (classRows 5) 1 (0 ∷ 0 ∷ []) gets order 7 (negsuc 117) (2 ∷ 1 ∷ [])) ∷
-    (reading (classRows 4) gets reads (refused 8 6)) ∷
+    (plan (classRows 4) 1 (0 ∷ 0 ∷ []) gets order 6 (negsuc 118) (2 ∷ 1 ∷ [])) ∷
+    -- M1 and M13 with their rows as they arrive: the same plans. M8's rows disagree in either order.
+    (printing (swappedRows 12) gets prints (listing 2 (line 11 (pos 6) (902 ∷ 901 ∷ []) ∷ line 12 (pos 0) (901 ∷ 902 ∷ []) ∷ []))) ∷
+    (list mixedRows (0 ∷ 0 ∷ 0 ∷ 0 ∷ 0 ∷ 0 ∷ 0 ∷ 0 ∷ []) gets plans 2 (121 ∷ 17 ∷ 122 ∷ 0 ∷ 0 ∷ 0 ∷ 0 ∷ 0 ∷ [])) ∷
+    (plan mixedRows 1 (0 ∷ 0 ∷ 0 ∷ 0 ∷ []) gets order 121 (pos 17) (4 ∷ 2 ∷ 1 ∷ 3 ∷ [])) ∷
+    (plan mixedRows 2 (0 ∷ 0 ∷ 0 ∷ 0 ∷ []) gets order 122 (pos 0) (2 ∷ 4 ∷ 3 ∷ 1 ∷ [])) ∷
+    (posting mixedRows (2 ∷ 4 ∷ 3 ∷ 1 ∷ []) gets judges (judged.Unbeaten 122 (pos 0))) ∷
+    (reading (swappedRows 14) gets reads (refused 8 6)) ∷
+    (reading apartRows gets reads (refused 8 10)) ∷
+    -- Equal dues with different spare: the smaller release plus length goes first, be it the shorter or the longer row; then the smaller row.
+    (plan (tiedRows 0 8 4 3) 1 (0 ∷ 0 ∷ []) gets order 21 (negsuc 8) (2 ∷ 1 ∷ [])) ∷
+    (plan (tiedRows 4 3 0 6) 1 (0 ∷ 0 ∷ []) gets order 19 (negsuc 10) (2 ∷ 1 ∷ [])) ∷
+    (plan (tiedRows 2 4 0 6) 1 (0 ∷ 0 ∷ []) gets order 20 (negsuc 9) (1 ∷ 2 ∷ [])) ∷
+    (plan (tiedRows 0 6 2 4) 1 (0 ∷ 0 ∷ []) gets order 20 (negsuc 9) (1 ∷ 2 ∷ [])) ∷
     []
 
 -- Two functions that give one list over a list agree at each of its elements.

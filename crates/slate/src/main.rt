@@ -2,10 +2,10 @@
 // specs says what that is for every input, and each printing function requires that what it is handed stands there. So only the reading and
 // the writing are taken on trust.
 ghost use mathlib.Core.Path.{_≡_};
-ghost use mathlib.Core.List.{_++_, map};
+ghost use mathlib.Core.List.{map};
 ghost use mathlib.Core.Option.{some};
 ghost use Prim.Native.Nat.{ℕ, _+_, _*_, _≤_, _<_};
-ghost use lib.ListN.{length, take, getD};
+ghost use lib.ListN.{length, getD};
 ghost use Rattle.schedule.specs.Rows.{row};
 ghost use Rattle.book.specs.Book.{tableRows};
 ghost use Rattle.planner.specs.Calls.{boundCall};

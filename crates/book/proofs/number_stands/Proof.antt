@@ -3,11 +3,13 @@
 use Prim.Native.Nat.{_≤_, _<_, _-_}
 use native.Mathlib.Omega.{arith}
 use mathlib.Core.Path.{_≡_, sym, _∙_}
+use lib.Dec.{eqb}
 use lib.ListN.{length, take, drop, getD, length-take}
 use lib.Seq.{getD-take}
+use borrow.Author.Tests.{eq-eqb, ne-eqb}
 use borrow.Author.Needs.{needs}
 use Rattle.book.specs.Rows.{stands}
-use Rattle.book.proofs.Scans.{stands-here, stands-on, stands-end}
+use Rattle.book.proofs.Scans.{any-here, any-on, any-end}
 use Rattle.book.proofs.number_stands.Statement.{statement}
 use Rattle.book.proofs.number_stands.Tie as tie
 
@@ -27,6 +29,7 @@ element-copy-out-if1 : tie.Need-element-copy-out-if1 Inv-loop μ-loop
 element-copy-out-if1 c = search needs
 
 returns : tie.Need-returns Inv-loop μ-loop
+unfolding stands
 returns c =
     let a = c .before .before .before .before .args in
     let i = c .before .before .before .loop .i in
@@ -34,7 +37,7 @@ returns c =
     let h : i < a .count = c .before .before .loop-test .taken in
     let l : i < length ms = omega (arith, length-take (a .count) (a .numbers .now)) in
     let e : a .number ≡ getD ms i 0 = rw (getD-take (a .count) (a .numbers .now) i 0 h) (c .if1 .taken) in
-    sym (c .before .before .before .loop .inv .1 ∙ stands-here (a .number) ms i l e)
+    sym (c .before .before .before .loop .inv .1 ∙ any-here (eqb (a .number)) ms 0 i l (eq-eqb _ _ e))
 
 add-i : tie.Need-add-i Inv-loop μ-loop
 add-i c = search needs
@@ -43,6 +46,7 @@ loop-less : tie.Need-loop-less Inv-loop μ-loop
 loop-less c = search needs
 
 loop-again : tie.Need-loop-again Inv-loop μ-loop
+unfolding stands
 loop-again c =
     let a = c .before .before .before .before .args in
     let i = c .before .before .before .loop .i in
@@ -50,15 +54,16 @@ loop-again c =
     let h : i < a .count = c .before .before .loop-test .taken in
     let l : i < length ms = omega (arith, length-take (a .count) (a .numbers .now)) in
     let e : a .number ≡ getD ms i 0 → ⊥ = rw (getD-take (a .count) (a .numbers .now) i 0 h) (c .if1 .left) in
-    (search needs, c .before .before .before .loop .inv .1 ∙ stands-on (a .number) ms i l e)
+    (search needs, c .before .before .before .loop .inv .1 ∙ any-on (eqb (a .number)) ms 0 i l (ne-eqb _ _ e))
 
 returns-2 : tie.Need-returns-2 Inv-loop μ-loop
+unfolding stands
 returns-2 c =
     let a = c .before .before .args in
     let i = c .before .loop .i in
     let ms = take (a .count) (a .numbers .now) in
     let l : length ms ≤ i = omega (arith, length-take (a .count) (a .numbers .now)) in
-    sym (c .before .loop .inv .1 ∙ stands-end (a .number) ms i l)
+    sym (c .before .loop .inv .1 ∙ any-end (eqb (a .number)) ms 0 i l)
 
 pub number-stands-spec : {M : Type 1} → statement M
 number-stands-spec =

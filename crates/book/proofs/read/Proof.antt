@@ -95,7 +95,7 @@ returns-3 c =
     let a : readingOf x .outcome ≡ Passed = sym (ap (λ (z : Reading). z .outcome) (rows r)) ∙ c .before .before .before .enum-told3 .given .1 in
     let t : r .read-rows .result .table ≡ readingOf x .table = ap (λ (z : Reading). z .table) (rows r) in
     c .settled .ensures ∙ ap (λ (o : Tested). settledOf o (r .read-rows .result .table)) (c .before .order-tests .ensures)
-    ∙ ap (λ (u : Table). settledOf (orderTests 2 (tableRows u)) u) t ∙ order-settled x a ∙ ap readingOf (sym (left r))
+    ∙ ap (λ (u : Table). settledOf (orderTests (tableRows u)) u) t ∙ order-settled x a ∙ ap readingOf (sym (left r))
 
 pub read-spec : {M : Type 1} → statement M
 read-spec =
