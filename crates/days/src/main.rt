@@ -1,5 +1,5 @@
 // Runs days through the offered calls and prints what comes out, for the stored output to be held against: worked days, every refusal at every
-// place where it can come, buffers of every length, ties, early work, and books with many plans.
+// place where it can come, buffers of every length, ties, early work, rows as they arrive, and books with many plans.
 
 mod calls;
 mod make;
@@ -21,6 +21,7 @@ fn main() {
     tests::unlisted();
     plans::bounds();
     plans::ties();
+    plans::arriving();
     plans::classes();
     plans::many();
 }

@@ -1,7 +1,5 @@
 // Days with their lists, orders and verdicts.
 ghost use Prim.Native.Nat.{_≤_};
-ghost use mathlib.Core.Path.{_≡_};
-ghost use lib.ListN.{length, take};
 use crate::calls;
 use crate::make;
 use crate::make::CLASS;
@@ -68,7 +66,7 @@ pub fn marked() {
     say::text(b"\nverdicts:");
     verdicts(make::first(&book, n));
     whole(b"equal spares", 0, 60, &[1, 1, 5, 0, 10, 13]);
-    whole(b"spare rises", 0, 60, &[1, 1, 5, 0, 10, 14]);
+    whole(b"rows that disagree", 0, 60, &[1, 1, 5, 0, 10, 14]);
     whole(b"desk not free", 7, 60, &[3, 4, 10]);
     whole(b"equal rows", 0, 60, &[0, 2, 5, 0, 2, 5]);
     whole(b"7 pages at 40", 0, 40, &[0, 7, 0]);
@@ -141,7 +139,47 @@ pub fn ties() {
         7,
         &[4, 1, 20, 2, 5, 60, 30, 2, 70, 1, 9, 90],
     );
-    whole(b"due falls", 0, 60, &[0, 1, 5, 0, 1, 4]);
+    whole(b"due and spare fall", 0, 60, &[0, 1, 5, 0, 1, 4]);
+}
+
+// Rows as they arrive: by no order, with rows that disagree, with equal dues, and with ties decided by release plus length and by row.
+pub fn arriving() {
+    whole(b"two rows, the later first", 0, 60, &[0, 10, 12, 1, 1, 5]);
+    whole(
+        b"the later first, disagreeing",
+        0,
+        60,
+        &[0, 10, 14, 1, 1, 5],
+    );
+    whole(
+        b"two parts, mixed",
+        0,
+        60,
+        &[100, 20, 122, 1, 1, 5, 101, 1, 104, 0, 10, 12],
+    );
+    whole(
+        b"disagrees two rows up",
+        0,
+        60,
+        &[0, 5, 10, 0, 18, 20, 0, 7, 15],
+    );
+    whole(
+        b"two rows disagree with the first",
+        0,
+        60,
+        &[0, 5, 10, 0, 18, 20, 0, 7, 15, 0, 8, 16],
+    );
+    whole(b"equal dues, spare rises", 0, 60, &[0, 9, 20, 0, 5, 20]);
+    whole(b"tie by end, the shorter", 10, 60, &[0, 8, 30, 4, 3, 30]);
+    whole(b"tie by end, the longer", 10, 60, &[4, 3, 30, 0, 6, 30]);
+    whole(b"tie by row", 10, 60, &[2, 4, 30, 0, 6, 30]);
+    whole(b"tie by row, swapped", 10, 60, &[0, 6, 30, 2, 4, 30]);
+    whole(
+        b"second pick by end",
+        0,
+        60,
+        &[3, 7, 18, 3, 5, 18, 0, 18, 25],
+    );
 }
 
 // One row of a class, released at 10 and read for 5 minutes.

@@ -1,7 +1,6 @@
 // Every refusal at every place where it can come.
 ghost use Prim.Native.Nat.{_≤_};
-ghost use mathlib.Core.Path.{_≡_};
-ghost use lib.ListN.{length, take};
+ghost use lib.ListN.{length};
 use crate::calls;
 use crate::make;
 use crate::make::CLASS;
@@ -142,10 +141,15 @@ fn cut_count(base: &[u32]) -> usize
     count
 }
 
-fn is_refused_with(base: &[u32], place: usize, w: u32, number: u32) -> bool {
+// With another word at a place, the book is refused with a number at a place.
+fn is_refused_at(base: &[u32], place: usize, w: u32, number: u32, at: usize) -> bool {
     let mut book = [0u32; ROOM];
     let n = make::copy(base, place, w, &mut book);
-    calls::is_refused(make::first(&book, n), number, place)
+    calls::is_refused(make::first(&book, n), number, at)
+}
+
+fn is_refused_with(base: &[u32], place: usize, w: u32, number: u32) -> bool {
+    is_refused_at(base, place, w, number, place)
 }
 
 // How often a word of another kind is refused 2 at its place.
@@ -192,6 +196,20 @@ fn twice_count(base: &[u32]) -> usize
     count
 }
 
+// How often a row whose due and spare are larger than those of the rows above is refused 8 at its number word.
+fn disorder_count(base: &[u32]) -> usize
+    ensures { λ r. ⌜ r ≤ length (now (base .entry)) ⌝ }
+{
+    let mut count: usize = 0;
+    let mut place: usize = 9;
+    while place < base.len() {
+        let refused = is_refused_at(base, place, make::word(6, 6), 8, place - 3);
+        count += calls::one_if(refused);
+        place += 4;
+    }
+    count
+}
+
 // The word that would open row 257, by its kind.
 fn after_256(base: &[u32], value: u32) {
     say::after(b"after row 256, value ", value as u64);
@@ -215,6 +233,7 @@ pub fn rows() {
     say::after(b" kind ", kind_count(base) as u64);
     say::after(b" range ", range_count(base) as u64);
     say::after(b" twice ", twice_count(base) as u64);
+    say::after(b" disorder ", disorder_count(base) as u64);
     say::line();
     after_256(base, 1);
     after_256(base, 256);
@@ -285,7 +304,7 @@ fn moves(base: &[u32]) {
     }
 }
 
-// Due falls or spare rises: each value of the rows moved a little.
+// Each value of the rows moved a little, so that rows disagree: of rows by rising due, and of rows as they arrive.
 pub fn disorder() {
     let mut book = [0u32; ROOM];
     let n = make::book(
@@ -295,6 +314,13 @@ pub fn disorder() {
         &[3, 3, 10, 3, 4, 11, 3, 5, 12, 3, 5, 12, 3, 6, 13],
     );
     moves(make::first(&book, n));
+    let mixed = make::book(
+        &mut book,
+        0,
+        60,
+        &[3, 5, 12, 3, 3, 10, 3, 6, 13, 3, 4, 11, 3, 5, 12],
+    );
+    moves(make::first(&book, mixed));
 }
 
 // A word after the end of a book, and the count wrong as well.

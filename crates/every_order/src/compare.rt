@@ -15,6 +15,7 @@ pub struct Tally {
     pub books: u32,
     pub plans: [u32; 9],
     pub classes: u32,
+    pub unsorted: u32,
     pub ties: u32,
     pub idle: u32,
     pub early: u32,
@@ -33,6 +34,7 @@ impl Tally {
             books: 0,
             plans: [0; 9],
             classes: 0,
+            unsorted: 0,
             ties: 0,
             idle: 0,
             early: 0,
@@ -58,13 +60,41 @@ fn differ(t: Tally, what: &[u8], asked: u32, day: Day) -> Tally {
     u
 }
 
-// Two rows are due at the same minute.
-fn has_ties(day: Day) -> bool {
+// A row is due before the row above it.
+fn is_unsorted(day: Day) -> bool {
     let due = day.due;
     let count = day::at_most(day.count, 8);
     let mut i: usize = 1;
     while i < count {
-        if due[i - 1] == due[i] {
+        if due[i - 1] > due[i] {
+            return true;
+        }
+        i += 1;
+    }
+    false
+}
+
+// A row above row i is due at the same minute.
+fn is_due_above(due: [u32; 8], i: usize) -> bool
+    requires { ⌜ i < 8 ⌝ }
+{
+    let mut j: usize = 0;
+    while j < i {
+        if due[j] == due[i] {
+            return true;
+        }
+        j += 1;
+    }
+    false
+}
+
+// Two rows are due at the same minute.
+fn has_ties(day: Day) -> bool {
+    let due = day.due;
+    let count = day::at_most(day.count, 8);
+    let mut i: usize = 0;
+    while i < count {
+        if is_due_above(due, i) {
             return true;
         }
         i += 1;
@@ -106,6 +136,9 @@ fn counted(t: Tally, day: Day, front: Front, tried: u32) -> Tally {
     let class = day.class;
     if class[0] < day::NO_CLASS {
         u.classes = more(u.classes);
+    }
+    if is_unsorted(day) {
+        u.unsorted = more(u.unsorted);
     }
     if has_ties(day) {
         u.ties = more(u.ties);

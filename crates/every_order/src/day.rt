@@ -1,4 +1,4 @@
-// Days made by a rule: due never falls and spare never rises from row to row. In days of shape 4 all rows are of one turnaround class.
+// Days made by a rule, their rows by rising due: from row to row spare never rises, so no two rows disagree. In days of shape 4 all rows are of one turnaround class.
 ghost use mathlib.Core.Path.{_≡_};
 ghost use Prim.Native.Nat.{_≤_, _<_};
 ghost use lib.ListN.{length};
@@ -19,7 +19,7 @@ pub struct Day {
 }
 
 // The next number of a sequence that goes round below 2^31.
-fn next(s: u32) -> u32
+pub fn next(s: u32) -> u32
     ensures { λ r. ⌜ r < 2147483647 ⌝ }
 {
     let wide = ((s as u64) * 48_271) % 2_147_483_647;

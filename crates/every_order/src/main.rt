@@ -1,4 +1,4 @@
-// Holds the planner against trying every order: small books made by a rule, the pairs of all their orders worked out here, with no part
+// Holds the planner against trying every order: small books made by a rule, their rows as they arrive, the pairs of all their orders worked out here, with no part
 // of the planner, and every offered call compared with them. A difference prints its book and what was asked.
 mod compare;
 mod day;
@@ -14,7 +14,7 @@ fn main() {
     let mut tally = Tally::none();
     let mut n: u32 = 0;
     while n < BOOKS {
-        tally = compare::book(day::made(n), tally);
+        tally = compare::book(orders::arriving(n), tally);
         n += 1;
     }
     say::tally(tally);

@@ -1,5 +1,4 @@
 // Every order of a day's rows, its end and its worst lateness, and the pairs that no order beats.
-ghost use Prim.Native.Nat.{_≤_};
 use crate::day;
 use crate::day::Day;
 
@@ -54,6 +53,35 @@ pub fn order_at(n: usize, code: u32) -> [u32; 8] {
         i += 1;
     }
     order
+}
+
+// The day with its rows in another order.
+fn arranged(day: Day, order: [u32; 8]) -> Day {
+    let release = day.release;
+    let pages = day.pages;
+    let length = day.length;
+    let due = day.due;
+    let mut other = day;
+    let count = day::at_most(day.count, 8);
+    let mut k: usize = 0;
+    while k < count {
+        let i = (order[k] % 8) as usize;
+        other.release[k] = release[i];
+        other.pages[k] = pages[i];
+        other.length[k] = length[i];
+        other.due[k] = due[i];
+        k += 1;
+    }
+    other
+}
+
+// Day n with its rows as they arrive: every fourth day as it was made, by rising due, the others in any order. All rows are of one class or of none.
+pub fn arriving(n: u32) -> Day {
+    let day = day::made(n);
+    if n % 4 == 0 {
+        return day;
+    }
+    arranged(day, order_at(day.count, day::next(n)))
 }
 
 // The end and the worst lateness of an order, by the desk's own rules.

@@ -56,6 +56,7 @@ pub fn tally(t: Tally) {
     let counts = t.plans;
     plans(counts);
     line(b"books of one class ", t.classes);
+    line(b"books with a due below the one above ", t.unsorted);
     line(b"books with equal dues ", t.ties);
     line(b"books with idle time in plan 1 ", t.idle);
     line(b"books with all work early in a plan ", t.early);

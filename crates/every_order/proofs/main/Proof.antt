@@ -17,8 +17,8 @@ none-requires c κs = search needs
 loop-holds : tie.Need-loop-holds Inv-loop μ-loop
 loop-holds c = search needs
 
-made-requires : tie.Need-made-requires Inv-loop μ-loop
-made-requires c κs = search needs
+arriving-requires : tie.Need-arriving-requires Inv-loop μ-loop
+arriving-requires c κs = search needs
 
 book-requires : tie.Need-book-requires Inv-loop μ-loop
 book-requires c κs = search needs
@@ -46,7 +46,7 @@ main-spec =
     μ-loop
     none-requires
     loop-holds
-    made-requires
+    arriving-requires
     book-requires
     add-n
     loop-less

@@ -6,7 +6,7 @@ use Rattle.every_order.proofs.compare.has_ties.Statement.{statement}
 use Rattle.every_order.proofs.compare.has_ties.Tie as tie
 
 abbrev Inv-loop : tie.InvT-loop
-Inv-loop due count i₀ i = 1 ≤ i
+Inv-loop due count i₀ i = i ≤ count
 
 abbrev μ-loop : tie.MeasureT-loop
 μ-loop due count i₀ i = count - i
@@ -17,20 +17,8 @@ at-most-requires c κs = search needs
 loop-holds : tie.Need-loop-holds Inv-loop μ-loop
 loop-holds c = search needs
 
-sub-if1 : tie.Need-sub-if1 Inv-loop μ-loop
-sub-if1 c = search needs
-
-mul-if1 : tie.Need-mul-if1 Inv-loop μ-loop
-mul-if1 c = search needs
-
-array-read-if1 : tie.Need-array-read-if1 Inv-loop μ-loop
-array-read-if1 c = search needs
-
-mul-if1-2 : tie.Need-mul-if1-2 Inv-loop μ-loop
-mul-if1-2 c = search needs
-
-array-read-if1-2 : tie.Need-array-read-if1-2 Inv-loop μ-loop
-array-read-if1-2 c = search needs
+is-due-above-requires : tie.Need-is-due-above-requires Inv-loop μ-loop
+is-due-above-requires c κs = search needs
 
 returns : tie.Need-returns Inv-loop μ-loop
 returns c = search needs
@@ -55,11 +43,7 @@ has-ties-spec =
     μ-loop
     at-most-requires
     loop-holds
-    sub-if1
-    mul-if1
-    array-read-if1
-    mul-if1-2
-    array-read-if1-2
+    is-due-above-requires
     returns
     add-i
     loop-less
