@@ -31,9 +31,9 @@
  *     margin  60  120  480  1,440  4,320  10,080  20,160  43,200
  *
  * A row's spare is due - release - length; where it has a class that is the
- * margin. From each row to the next the due may not fall and the spare may not
- * rise, whether the rows have due words or class words. So rows of one class
- * may follow each other where release + length does not fall.
+ * margin. Two rows disagree if one has the smaller due and also the smaller
+ * spare. Rows may stand in any order, as long as no two of them disagree. Rows
+ * of one class never do.
  *
  * Word places count from 0. Rows, plans and the row numbers in an order or a
  * posting count from 1, in the sequence of the book; they are not the order
@@ -63,7 +63,7 @@
 #include <stddef.h>
 #include <stdint.h>
 
-#define JELVAKSNA_VERSION "1.1"
+#define JELVAKSNA_VERSION "1.2"
 
 /* The refusals, and the place that comes with each. */
 #define JELVAKSNA_CUT 1          /* the book stops where a word is due: its length */
@@ -73,7 +73,7 @@
 #define JELVAKSNA_FULL 5         /* a number word would open row 257: that word */
 #define JELVAKSNA_COUNT 6        /* the end word differs from the rows read: that word */
 #define JELVAKSNA_TAIL 7         /* a word follows the end word: that word */
-#define JELVAKSNA_DISORDER 8     /* due falls or spare rises: number word of the first such row */
+#define JELVAKSNA_DISORDER 8     /* two rows disagree: number word of the first row that does with one above */
 #define JELVAKSNA_NARROW 9       /* the result is too short: 0 */
 #define JELVAKSNA_NOT_POSTING 10 /* not every row once: see jelvaksna_verdict */
 #define JELVAKSNA_UNLISTED 11    /* no row or plan of that number: how many there are */

@@ -1,5 +1,6 @@
 /* A day of two transcripts: its plans, an order, a verdict and a row's words;
- * then the same day with a class for each row in place of its due.
+ * then the same day with a class for each row in place of its due, and with the
+ * rows in the other sequence.
  *
  *     cc -std=c11 -Iinclude host/c/example.c target/staticlib/libjelvaksna.a
  */
@@ -95,6 +96,20 @@ int main(void) {
     classes[9] = JELVAKSNA_WORD(0, 8);
     answer = jelvaksna_list(classes, words, list, JELVAKSNA_MAX_LIST_WORDS);
     EXPECT(answer.refusal == JELVAKSNA_RANGE && answer.place == 9);
+
+    /* The rows in the other sequence: the same plan, in the numbers that the rows have now. */
+    uint32_t turned[sizeof book / sizeof *book];
+    memcpy(turned, book, sizeof book);
+    memcpy(turned + 2, book + 6, 4 * sizeof *book);
+    memcpy(turned + 6, book + 2, 4 * sizeof *book);
+    answer = jelvaksna_order_for_bound(turned, words, 5, order, 2);
+    EXPECT(answer.refusal == 0 && answer.end == 12 && answer.late == 0 && order[0] == 2 && order[1] == 1);
+    printf("rows turned, at most 5 late: end %" PRIu32 ", rows", answer.end);
+    print_order(order, 2);
+    /* Due at 14, the long row has more spare than the one that is due at 5. */
+    turned[5] = JELVAKSNA_WORD(6, 14);
+    answer = jelvaksna_list(turned, words, list, JELVAKSNA_MAX_LIST_WORDS);
+    EXPECT(answer.refusal == JELVAKSNA_DISORDER && answer.place == 6);
 
     /* A book that stops, and an empty one. */
     answer = jelvaksna_list(book, words - 1, list, JELVAKSNA_MAX_LIST_WORDS);

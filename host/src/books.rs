@@ -1,13 +1,15 @@
 //! A seeded maker of books: accepted days of many shapes, and books damaged in every way that the
-//! paper names.
+//! papers name.
 //!
-//! A row is in agreement with the row above if release plus length does not fall and its due lies
-//! between the due above and the spare above plus its own release and length. The makers below
-//! choose within these limits, so that what they make is accepted by construction. A class row's
-//! spare is the margin of its class, so rows of one class agree if release plus length does not fall.
+//! Two rows disagree if one has the smaller due and also the smaller spare. The makers below add row
+//! after row so that the due never falls and the spare never rises: no two of these rows disagree,
+//! and any rows of which no two disagree can be sorted so. A last step lets the rows arrive in
+//! another sequence. A class row's spare is the margin of its class, so rows of one class never
+//! disagree.
 
 use crate::model::{length, MARGINS, MAX_ROWS};
 use crate::word;
+use std::ops::Range;
 
 /// The seed of a test run: `JELVAKSNA_SEED` (decimal, or hexadecimal after 0x), or a fixed one.
 pub fn seed() -> u64 {
@@ -98,21 +100,28 @@ pub struct DraftRow {
     pub class: Option<u32>,
 }
 
+impl DraftRow {
+    /// Release and due so much later; the spare stays as it is.
+    fn put_off(&mut self, minutes: i64) {
+        self.release += minutes;
+        self.due += minutes;
+    }
+}
+
 impl Draft {
     /// A day from rows of number, release, pages, due.
     pub fn of(free: i64, pace: i64, rows: &[(u32, i64, i64, i64)]) -> Self {
-        let rows = rows.iter().map(|&(number, release, pages, due)| DraftRow {
-            number,
-            release,
-            pages,
-            due,
-            class: None,
-        });
-        Draft {
-            free,
-            pace,
-            rows: rows.collect(),
+        let mut day = Draft::empty(free, pace);
+        for (i, &(number, release, pages, due)) in rows.iter().enumerate() {
+            day.push(release, pages, due);
+            day.rows[i].number = number;
         }
+        day
+    }
+
+    fn empty(free: i64, pace: i64) -> Self {
+        let rows = Vec::new();
+        Draft { free, pace, rows }
     }
 
     /// The book of the day.
@@ -131,7 +140,7 @@ impl Draft {
         book
     }
 
-    /// The same day with all rows of one class. An accepted day is accepted so as well.
+    /// The same day with all rows of one class. Any day is accepted so.
     pub fn of_class(mut self, class: u32) -> Self {
         let pace = self.pace;
         for row in &mut self.rows {
@@ -141,9 +150,37 @@ impl Draft {
         self
     }
 
-    /// One accepted day in two as it is; the others with new dues that agree, most with class rows:
-    /// all of one class, or of falling classes and with due rows before, among and after them.
-    pub fn with_classes(mut self, rng: &mut Rng) -> Self {
+    /// The same rows in a sequence by chance.
+    pub fn shuffled(mut self, rng: &mut Rng) -> Self {
+        rng.shuffle(&mut self.rows);
+        self
+    }
+
+    /// A sorted day made one of many: with classes or without, its rows in any sequence.
+    pub fn varied(self, rng: &mut Rng) -> Self {
+        self.with_classes(rng).arriving(rng)
+    }
+
+    /// Three days in ten as they are, four shuffled; the others with their rows by release, the last
+    /// one first, or one row out of its place.
+    fn arriving(mut self, rng: &mut Rng) -> Self {
+        match rng.below(10) {
+            0..=2 => {}
+            3..=6 => return self.shuffled(rng),
+            7 => self.rows.sort_by_key(|row| row.release),
+            8 => self.rows.reverse(),
+            _ => {
+                let row = self.rows.remove(rng.below(self.rows.len()));
+                let to = rng.below(self.rows.len() + 1);
+                self.rows.insert(to, row);
+            }
+        }
+        self
+    }
+
+    /// One sorted day in two as it is; the others with new dues, most with class rows: all of one
+    /// class, or of falling classes and with due rows before, among and after them. Still sorted.
+    fn with_classes(mut self, rng: &mut Rng) -> Self {
         match rng.below(6) {
             0..=2 => return self,
             3 => return self.of_class(rng.below(MARGINS.len()) as u32),
@@ -157,7 +194,7 @@ impl Draft {
             if i > 0 && rng.one_in(falls_one_in) {
                 spare = self.less_spare(rng, i, spare);
             }
-            let reach = self.rows[i].release + self.length(&self.rows[i]);
+            let reach = self.reach(&self.rows[i]);
             let row = &mut self.rows[i];
             row.due = reach + spare;
             let class = MARGINS.iter().position(|&margin| margin == spare);
@@ -169,10 +206,9 @@ impl Draft {
     }
 
     /// A smaller spare for a row and those after it, such that the due does not fall: the margin of
-    /// a lower class, for which these rows may have to be released later, or any that agrees.
+    /// a lower class, for which these rows may have to be released later, or any that will do.
     fn less_spare(&mut self, rng: &mut Rng, row: usize, spare: i64) -> i64 {
-        let (above, below) = (self.rows[row - 1], self.rows[row]);
-        let room = below.release + self.length(&below) - above.release - self.length(&above);
+        let room = self.reach(&self.rows[row]) - self.reach(&self.rows[row - 1]);
         if rng.one_in(4) {
             return spare - rng.range(0, room.min(100));
         }
@@ -195,30 +231,62 @@ impl Draft {
         length(row.pages, self.pace)
     }
 
-    /// Adds a row that agrees with the last one. What is asked for is bent into the limits: an
-    /// earlier release is moved later, and `slack` of 0 to 100 says where in the span of dues that
-    /// agree the due shall lie (100: the spare stays as it is).
-    fn add(&mut self, release: i64, pages: i64, slack: i64) {
-        let number = self.rows.len() as u32;
-        let above = *self.rows.last().expect("a first row stands");
-        let reach = above.release + self.length(&above);
-        let spare = above.due - reach;
-        let mut row = DraftRow {
-            number,
+    /// Release plus length.
+    pub fn reach(&self, row: &DraftRow) -> i64 {
+        row.release + self.length(row)
+    }
+
+    fn push(&mut self, release: i64, pages: i64, due: i64) {
+        self.rows.push(DraftRow {
+            number: self.rows.len() as u32,
             release,
             pages,
-            due: 0,
+            due,
             class: None,
-        };
-        row.release = row.release.max(reach - self.length(&row));
-        if row.release > LAST_RELEASE {
-            // A second row like the one above always agrees.
-            row.release = above.release;
-            row.pages = above.pages;
+        });
+    }
+
+    /// Adds a row with a due no smaller and a spare no greater than the last one's. What is asked for
+    /// is bent into the limits: an earlier release is moved later, and `slack` of 0 to 100 says where
+    /// between these two the due shall lie (0: due as above, 100: spare as above).
+    fn add(&mut self, release: i64, pages: i64, slack: i64) {
+        let above = *self.rows.last().expect("a first row stands");
+        let reach = self.reach(&above);
+        let (mut release, mut pages) = (release.max(reach - length(pages, self.pace)), pages);
+        if release > LAST_RELEASE {
+            // The row above once more.
+            (release, pages) = (above.release, above.pages);
         }
-        let most = (spare + row.release + self.length(&row)).min(LAST_DUE);
-        row.due = above.due + (most - above.due) * slack / 100;
-        self.rows.push(row);
+        let spare = above.due - reach;
+        let most = (spare + release + length(pages, self.pace)).min(LAST_DUE);
+        let due = above.due + (most - above.due) * slack / 100;
+        self.push(release, pages, due);
+    }
+
+    /// Makes two rows of this part of a sorted day disagree with each other and with no other row.
+    fn set_at_odds(&mut self, rng: &mut Rng, part: Range<usize>) {
+        let place = part.start + rng.below(part.len() - 1);
+        let most = rng.pick(&[1, 1, 2, 60]);
+        // The rows above have so much more spare than these two, the rows below are due so much later.
+        for row in &mut self.rows[..place] {
+            row.class = None;
+            row.due += most;
+        }
+        for row in &mut self.rows[place..] {
+            row.put_off(most);
+        }
+        for row in &mut self.rows[place + 2..] {
+            row.put_off(most);
+        }
+        let one = self.rows[place];
+        let (due, spare) = (rng.range(1, most), rng.range(1, most));
+        self.rows[place + 1] = DraftRow {
+            number: self.rows[place + 1].number,
+            release: one.release + due - spare,
+            due: one.due + due,
+            class: None,
+            ..one
+        };
     }
 
     /// Gives the rows numbers of their own.
@@ -247,16 +315,39 @@ const LAST_RELEASE: i64 = 10_000_000;
 const LAST_DUE: i64 = 20_000_000;
 
 /// A day of so many rows, of a shape chosen at random: crowded or idle, early or late, with ties,
-/// with rows of one length or of many, at the limits or far from them, with class rows or without.
+/// with rows of one length or of many, at the limits or far from them, with class rows or without,
+/// sorted or not.
 pub fn accepted(rng: &mut Rng, rows: usize) -> Draft {
     let day = match rng.below(8) {
-        0 => several_plans(rng, rows),
-        1 | 2 => contests(rng, rows),
-        3 => typical_day(rng, rows),
-        4 => limits(rng, rows),
-        _ => mixed(rng, rows),
+        0 => limits(rng, rows),
+        _ => within_limits(rng, rows),
     };
-    day.with_classes(rng)
+    day.varied(rng)
+}
+
+/// A sorted day of due rows with room for later releases and dues.
+fn within_limits(rng: &mut Rng, rows: usize) -> Draft {
+    match rng.below(9) {
+        0 | 1 => several_plans(rng, rows),
+        2 | 3 => contests(rng, rows),
+        4 => typical_day(rng, rows),
+        5 => ties(rng, rows),
+        _ => mixed(rng, rows),
+    }
+}
+
+/// A day of two rows and more that is refused for disorder alone: two rows disagree, and in one day
+/// of two (from four rows on) two others do. Unsorted, they may stand far apart.
+pub fn disagreeing(rng: &mut Rng, rows: usize) -> Draft {
+    let mut day = within_limits(rng, rows).with_classes(rng);
+    let half = rows / 2;
+    if half > 1 && rng.one_in(2) {
+        day.set_at_odds(rng, 0..half);
+        day.set_at_odds(rng, half..rows);
+    } else {
+        day.set_at_odds(rng, 0..rows);
+    }
+    day.arriving(rng)
 }
 
 /// Number of rows of a short, middling or long day.
@@ -281,31 +372,19 @@ fn mixed(rng: &mut Rng, rows: usize) -> Draft {
     let step = rng.pick(&[0, 1, 2, 5, 12, 40, 150, 1000]);
     let slack = rng.pick(&[0, 50, 95, 100, 100]);
     let first_release = rng.pick(&[0, 0, 3, 100, 1_000_000]);
-    let mut day = Draft {
-        free: match rng.below(4) {
-            0 => first_release + rng.range(0, 200),
-            1 => 0,
-            _ => (first_release + rng.range(-30, 30)).max(0),
-        },
-        pace,
-        rows: Vec::new(),
+    let free = match rng.below(4) {
+        0 => first_release + rng.range(0, 200),
+        1 => 0,
+        _ => (first_release + rng.range(-30, 30)).max(0),
     };
-    let first = DraftRow {
-        number: 0,
-        release: first_release,
-        pages: rng.range(1, most_pages),
-        due: 0,
-        class: None,
-    };
-    let reach = first.release + day.length(&first);
+    let mut day = Draft::empty(free, pace);
+    let pages = rng.range(1, most_pages);
     let spare = rng.pick(&[-20, -1, 0, 1, 3, 20, 300, 10_000]);
-    day.rows.push(DraftRow {
-        due: (reach + spare).max(0),
-        ..first
-    });
+    let due = (first_release + length(pages, pace) + spare).max(0);
+    day.push(first_release, pages, due);
     while day.rows.len() < rows {
         let above = *day.rows.last().unwrap();
-        let reach = above.release + day.length(&above);
+        let reach = day.reach(&above);
         if rng.one_in(12) {
             // A tie: the same again.
             day.add(above.release, above.pages, 100);
@@ -334,19 +413,13 @@ fn mixed(rng: &mut Rng, rows: usize) -> Draft {
 
 /// Days at the limits of the values: late desks, late releases, slow paces, thick transcripts.
 fn limits(rng: &mut Rng, rows: usize) -> Draft {
-    let mut day = Draft {
-        free: rng.pick(&[0, LAST_RELEASE, LAST_RELEASE - 1]),
-        pace: rng.pick(&[4, 4, 5, 120]),
-        rows: Vec::new(),
-    };
-    let first = DraftRow {
-        number: 0,
-        release: rng.pick(&[0, 0, LAST_RELEASE, LAST_RELEASE - 40_000]),
-        pages: rng.pick(&[1, 2, 2_000]),
-        due: rng.pick(&[0, 0, 1, 30_000, 1_000_000, LAST_DUE]),
-        class: None,
-    };
-    day.rows.push(first);
+    let free = rng.pick(&[0, LAST_RELEASE, LAST_RELEASE - 1]);
+    let mut day = Draft::empty(free, rng.pick(&[4, 4, 5, 120]));
+    day.push(
+        rng.pick(&[0, 0, LAST_RELEASE, LAST_RELEASE - 40_000]),
+        rng.pick(&[1, 2, 2_000]),
+        rng.pick(&[0, 0, 1, 30_000, 1_000_000, LAST_DUE]),
+    );
     while day.rows.len() < rows {
         let release = match rng.below(4) {
             0 => LAST_RELEASE - rng.range(0, 50),
@@ -360,41 +433,56 @@ fn limits(rng: &mut Rng, rows: usize) -> Draft {
     day
 }
 
-/// One long row and short ones whose gaps grow by chance, so that there are often several plans.
+/// Rows that tie: few dues, at one due few sums of release and length, and one sum from releases
+/// early and late.
+pub fn ties(rng: &mut Rng, rows: usize) -> Draft {
+    let pace = rng.pick(&[30, 60, 60, 120]);
+    let most_pages = rng.pick(&[2, 4, 12]);
+    let start = length(most_pages, pace) + rng.range(0, 20);
+    let mut day = Draft::empty(rng.pick(&[0, start, start + 20]), pace);
+    day.push(start, 1, start + rng.range(0, 60));
+    while day.rows.len() < rows {
+        let reach = day.reach(day.rows.last().unwrap());
+        let (later, slack) = match rng.below(5) {
+            0 | 1 => (0, 0),
+            2 | 3 => (rng.range(1, 3), 0),
+            _ => (rng.range(1, 9), rng.pick(&[50, 100])),
+        };
+        let pages = rng.range(1, most_pages);
+        day.add(reach + later - length(pages, pace), pages, slack);
+    }
+    day.number(rng);
+    day
+}
+
+/// One long row and short ones whose gaps grow by chance, so that there are often several plans. In
+/// one day of two some of the short ones share release and due, so that second picks tie.
 pub fn several_plans(rng: &mut Rng, rows: usize) -> Draft {
     let pace = rng.pick(&[4, 10, 20, 60]);
     let short = length(1, pace);
     let spare = rng.range(-40, 200);
-    let shorts = rows.max(2) - 1;
-    let mut day = Draft {
-        free: rng.range(0, 20),
-        pace,
-        rows: Vec::new(),
-    };
-    let (mut release, mut gap) = (day.free, rng.range(1, 3));
-    for i in 0..shorts {
-        release += gap;
-        if i == 0 {
-            let due = (release + short + spare).max(0);
-            day.rows.push(DraftRow {
-                number: 0,
-                release,
-                pages: 1,
-                due,
-                class: None,
-            });
+    let shared = rng.one_in(2);
+    let mut day = Draft::empty(rng.range(0, 20), pace);
+    let mut gap = rng.range(1, 3);
+    // When the desk is through with the short rows if it does them as they come.
+    let mut minute = day.free + gap + short;
+    day.push(minute - short, 1, (minute + spare).max(0));
+    while day.rows.len() + 1 < rows {
+        if shared && rng.one_in(2) {
+            let above = *day.rows.last().unwrap();
+            let pages = above.pages + rng.range(0, 1);
+            day.add(above.release, pages, 0);
+            minute += length(pages, pace);
         } else {
-            day.add(release, 1, 100);
+            gap = (gap + rng.pick(&[0, 0, 1, 1, 2, -1])).max(0);
+            day.add(minute + gap, 1, 100);
+            minute += gap + short;
         }
-        release += short;
-        gap += rng.pick(&[0, 0, 1, 1, 2, -1]);
-        gap = gap.max(0);
     }
     if rows > 1 {
         // Long enough to be released before the shorts, where the pages allow it.
-        let pages = ((release - day.free) * pace / 60 + rng.range(1, 5)).clamp(1, 2_000);
-        let reach = day.free + length(pages, pace);
-        day.add((reach - length(pages, pace)).max(0), pages, 100);
+        let pages = ((minute - day.free) * pace / 60 + rng.range(1, 5)).clamp(1, 2_000);
+        day.add(day.free, pages, 100);
     }
     day.number(rng);
     day
@@ -407,19 +495,10 @@ pub fn contests(rng: &mut Rng, rows: usize) -> Draft {
     let spare = rng.range(-5, 60);
     let every = rng.range(2, 9) as usize;
     let start = rng.range(0, 300);
-    let mut day = Draft {
-        free: start,
-        pace,
-        rows: Vec::new(),
-    };
-    let mut reach = start + length(1, pace) + rng.range(1, 4);
-    day.rows.push(DraftRow {
-        number: 0,
-        release: reach - length(1, pace),
-        pages: 1,
-        due: (reach + spare).max(0),
-        class: None,
-    });
+    let mut day = Draft::empty(start, pace);
+    let release = start + rng.range(1, 4);
+    let mut reach = release + length(1, pace);
+    day.push(release, 1, (reach + spare).max(0));
     // Where the busy desk would be by now.
     let mut busy = start + length(1, pace);
     while day.rows.len() < rows {
@@ -433,9 +512,8 @@ pub fn contests(rng: &mut Rng, rows: usize) -> Draft {
             let gap = rng.range(0, 2 + (i % every) as i64);
             day.add(reach + gap, 1, 100);
         }
-        let last = day.rows[i];
-        reach = last.release + day.length(&last);
-        busy = busy.max(start) + day.length(&last);
+        reach = day.reach(&day.rows[i]);
+        busy = busy.max(start) + day.length(&day.rows[i]);
     }
     day.number(rng);
     day
@@ -457,23 +535,9 @@ pub fn many_plans(rows: usize) -> Draft {
     const SHORT: i64 = 15;
     const LONG: i64 = 30_000;
     let shorts = rows.min(MOST_PLANS) as i64 - 1;
-    let mut day = Draft {
-        free: 0,
-        pace: 4,
-        rows: Vec::new(),
-    };
-    let mut add = |release: i64, pages: i64| {
-        let number = 1_000 + day.rows.len() as u32;
-        // No row has any spare.
-        let due = release + length(pages, 4);
-        day.rows.push(DraftRow {
-            number,
-            release,
-            pages,
-            due,
-            class: None,
-        });
-    };
+    let mut day = Draft::empty(0, 4);
+    // No row has any spare.
+    let mut add = |release: i64, pages: i64| day.push(release, pages, release + length(pages, 4));
     let mut minute = 0;
     for gap in 1..=shorts {
         add(minute + gap, 1);
@@ -503,19 +567,9 @@ pub fn typical_day(rng: &mut Rng, rows: usize) -> Draft {
         minute += rng.range(0, 62 * 60 / pace);
     }
     arrivals.sort_by_key(|&(release, pages)| release + length(pages, pace));
-    let mut day = Draft {
-        free: 480,
-        pace,
-        rows: Vec::new(),
-    };
+    let mut day = Draft::empty(480, pace);
     let (release, pages) = arrivals[0];
-    day.rows.push(DraftRow {
-        number: 0,
-        release,
-        pages,
-        due: release + length(pages, pace) + 600,
-        class: None,
-    });
+    day.push(release, pages, release + length(pages, pace) + 600);
     for &(release, pages) in &arrivals[1..] {
         let slack = if rng.one_in(20) { 50 } else { 100 };
         day.add(release, pages, slack);
@@ -657,11 +711,9 @@ pub fn damage(rng: &mut Rng, book: &mut Vec<u32>, way: u32) {
             book.swap(at, other);
         }
         13 if rows >= 2 => {
-            // Two rows changed about.
-            let (a, b) = (rng.below(rows), rng.below(rows));
-            for word in 0..4 {
-                book.swap(2 + 4 * a + word, 2 + 4 * b + word);
-            }
+            // The releases, the pages or the last words of two rows changed about.
+            let (a, b, word) = (rng.below(rows), rng.below(rows), 3 + rng.below(3));
+            book.swap(4 * a + word, 4 * b + word);
         }
         14 => {
             // A value of its kind changed, within the range or not.
@@ -670,7 +722,7 @@ pub fn damage(rng: &mut Rng, book: &mut Vec<u32>, way: u32) {
         }
         15 => {
             // A class word in place of a row's last word, within the range or not.
-            let class = rng.pick(&[0, 1, 2, 3, 4, 5, 6, 7, 7, 8, 9, 256, TOP]);
+            let class = rng.pick(&[0, 1, 2, 3, 4, 5, 6, 7, 7, 8, 8, 9, 256, TOP, TOP]);
             book[5 + 4 * rng.below(rows)] = word(0, class);
         }
         16 => {

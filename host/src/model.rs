@@ -1,5 +1,5 @@
-//! A second opinion: document 01 with the classes of request L1 as a plain program, written from
-//! these papers and from nothing else.
+//! A second opinion: document 01 with the classes of request L1 and the rows as they arrive of
+//! request L2 as a plain program, written from these papers and from nothing else.
 //!
 //! It keeps their sequence of tests and their words (desk, picks, run, blocks), calculates in
 //! 64 bits, and looks for nothing faster than plain scans.
@@ -37,8 +37,19 @@ pub struct Row {
 }
 
 impl Row {
+    /// Release plus length.
+    pub fn reach(&self) -> i64 {
+        self.release + self.length
+    }
+
     fn spare(&self) -> i64 {
-        self.due - self.release - self.length
+        self.due - self.reach()
+    }
+
+    /// One of the two has the smaller due and also the smaller spare.
+    fn disagrees(&self, other: &Row) -> bool {
+        let less = |a: &Row, b: &Row| a.due < b.due && a.spare() < b.spare();
+        less(self, other) || less(other, self)
     }
 }
 
@@ -130,9 +141,8 @@ impl Day {
         if place + 1 < book.len() {
             return refuse(TAIL, place + 1);
         }
-        for i in 1..rows.len() {
-            let (above, row) = (&rows[i - 1], &rows[i]);
-            if row.due < above.due || row.spare() > above.spare() {
+        for (i, row) in rows.iter().enumerate() {
+            if rows[..i].iter().any(|above| row.disagrees(above)) {
                 return refuse(DISORDER, place_of_row(i + 1));
             }
         }
@@ -146,6 +156,11 @@ impl Day {
     /// Whether any row has a class.
     pub fn has_classes(&self) -> bool {
         self.rows.iter().any(|row| row.class.is_some())
+    }
+
+    /// Whether the rows stand by rising due, and by rising release plus length at one due.
+    pub fn is_sorted(&self) -> bool {
+        self.rows.is_sorted_by_key(|row| (row.due, row.reach()))
     }
 }
 
@@ -194,9 +209,10 @@ impl<'d> Desk<'d> {
         self.minute.max(self.rows[row].release)
     }
 
-    /// What the picks go by: ready minute, then due, then row.
-    fn rank(&self, row: usize) -> (i64, i64, usize) {
-        (self.ready(row), self.rows[row].due, row)
+    /// What the picks go by: ready minute, then due, then release plus length, then row.
+    fn rank(&self, row: usize) -> (i64, i64, i64, usize) {
+        let (due, reach) = (self.rows[row].due, self.rows[row].reach());
+        (self.ready(row), due, reach, row)
     }
 
     /// The first pick, and the second if more than one row is left.
@@ -212,7 +228,7 @@ impl<'d> Desk<'d> {
                 second = Some(rank);
             }
         }
-        (first.2, second.map(|rank| rank.2))
+        (first.3, second.map(|rank| rank.3))
     }
 
     /// Does a row next; its lateness.

@@ -54,8 +54,8 @@ fn long_books() {
             _ => rng.range(49, MAX_ROWS as i64) as usize,
         };
         match i % 4 {
-            0 => books::typical_day(rng, rows).with_classes(rng),
-            1 => books::contests(rng, rows),
+            0 => books::typical_day(rng, rows).varied(rng),
+            1 => books::contests(rng, rows).varied(rng),
             _ => books::accepted(rng, rows),
         }
         .words()
@@ -64,17 +64,31 @@ fn long_books() {
 
 #[test]
 fn books_with_a_plan_for_each_row() {
-    // Each day as it is, then in a class.
-    let day = |rows: usize, i: u64| match i % 2 {
+    // Each day as it is, then unsorted and in a class.
+    let day = |rng: &mut Rng, rows: usize, i: u64| match i % 2 {
         0 => books::many_plans(rows),
-        _ => books::many_plans(rows).of_class(i as u32 / 2 % 8),
+        _ => books::many_plans(rows)
+            .of_class(i as u32 / 2 % 8)
+            .shuffled(rng),
     };
-    books("many plans", 48, Effort::All, |_, i| {
-        day(i as usize / 2 + 2, i).words()
+    books("many plans", 48, Effort::All, |rng, i| {
+        day(rng, i as usize / 2 + 2, i).words()
     });
     let long = [64, 100, MAX_ROWS];
-    books("very many plans", 6, Effort::Few, |_, i| {
-        day(long[i as usize / 2], i).words()
+    books("very many plans", 6, Effort::Few, |rng, i| {
+        day(rng, long[i as usize / 2], i).words()
+    });
+}
+
+#[test]
+fn disagreeing_books() {
+    let count = 6_000 * books::times();
+    books("disagreeing books", count, Effort::Few, |rng, i| {
+        let rows = match i % 50 {
+            0 => MAX_ROWS,
+            _ => 2 + rng.below(39),
+        };
+        books::disagreeing(rng, rows).words()
     });
 }
 
@@ -97,7 +111,7 @@ fn damaged_long_books() {
         } else {
             1 + rng.below(MAX_ROWS)
         };
-        let book = books::typical_day(rng, rows).with_classes(rng).words();
+        let book = books::typical_day(rng, rows).varied(rng).words();
         books::damaged(rng, &book)
     });
 }
@@ -119,8 +133,8 @@ fn every_place() {
     let rows = [(901, 1, 1, 5), (902, 0, 10, 12), (903, 20, 5, 27)];
     let dues = Draft::of(0, 60, &rows);
     let classes = dues.clone().of_class(1);
-    // A class row between due rows.
-    let rows = [(901, 1, 1, 130), (902, 0, 10, 130), (903, 20, 5, 140)];
+    // A class row between due rows, unsorted.
+    let rows = [(903, 20, 5, 140), (902, 0, 10, 130), (901, 1, 1, 130)];
     let mut between = Draft::of(0, 60, &rows);
     between.rows[1].class = Some(1);
     let mut values = vec![
@@ -182,7 +196,7 @@ fn every_place() {
 }
 
 /// Every class, at the limits of pace, release and pages: a row's due shows in its lateness, and in
-/// the dues that a row after it may have.
+/// the dues that another row may have.
 #[test]
 fn every_class() {
     let test = "every class";
@@ -232,7 +246,7 @@ fn every_number() {
         let mut rng = case.rng();
         let rows = 1 + rng.below(30);
         let book = books::several_plans(&mut rng, rows)
-            .with_classes(&mut rng)
+            .varied(&mut rng)
             .words();
         let day = Day::read(&book);
         let read = day.as_ref().expect("accepted");
@@ -254,7 +268,8 @@ fn every_number() {
     }
 }
 
-/// The worked days of document 01, to whose answers tests/model.rs holds the model.
+/// The worked days of document 01 and of the requests, to whose answers tests/model.rs holds the
+/// model.
 #[test]
 fn worked_days() {
     let two = [(901, 1, 1, 5), (902, 0, 10, 12)];
@@ -273,6 +288,14 @@ fn worked_days() {
         Draft::of(0, 60, &[]),
         Draft::of(0, 60, &two).of_class(0),
         Draft::of(0, 60, &four).of_class(7),
+        // Rows as they arrive: unsorted, at odds with a row that is not the one above, ties.
+        Draft::of(0, 60, &[two[1], two[0]]),
+        Draft::of(0, 60, &[three[2], three[0], three[1]]),
+        Draft::of(0, 60, &[two[0], three[2], (902, 0, 10, 14)]),
+        Draft::of(0, 60, &[(902, 0, 10, 14), three[2], two[0]]),
+        Draft::of(10, 60, &[(1, 0, 10, 50), (2, 5, 2, 50)]),
+        Draft::of(10, 60, &[(1, 0, 10, 50), (2, 5, 5, 50)]),
+        Draft::of(0, 60, &[(1, 0, 10, 14), (2, 1, 3, 9), (3, 1, 1, 9)]),
     ];
     for (i, draft) in days.iter().enumerate() {
         let case = Case::new("worked days", i as u64);

@@ -1,7 +1,8 @@
-//! The model against the days of document 01 and the classes of request L1, against trying every
-//! order, and the book maker against what it promises. Needs no archive.
+//! The model against the days of document 01, the classes of request L1 and the rows as they arrive
+//! of request L2, against trying every order, and the book maker against what it promises. Needs no
+//! archive.
 
-use jelvaksna::books::{self, Draft, Rng};
+use jelvaksna::books::{self, Draft, DraftRow, Rng};
 use jelvaksna::model::{self, Day, Row};
 use jelvaksna::{word, Pair, Refusal};
 use std::collections::{BTreeMap, BTreeSet};
@@ -12,6 +13,16 @@ fn m1() -> Draft {
 
 fn m2() -> Draft {
     Draft::of(0, 60, &[(901, 1, 1, 5), (902, 0, 10, 12), (903, 20, 5, 27)])
+}
+
+fn m13() -> Draft {
+    let rows = [
+        (1, 1, 1, 5),
+        (2, 0, 10, 12),
+        (3, 101, 1, 104),
+        (4, 100, 20, 122),
+    ];
+    Draft::of(0, 60, &rows)
 }
 
 fn day(draft: &Draft) -> Day {
@@ -47,6 +58,13 @@ fn book_of(rows: &[(u32, u32, u32)]) -> Vec<u32> {
     book
 }
 
+/// What refuses the book of two rows, the same whichever of them comes first.
+fn in_either_order(one: (u32, u32, u32), other: (u32, u32, u32)) -> Option<(u32, usize)> {
+    let refused = refusal(&book_of(&[one, other]));
+    assert_eq!(refused, refusal(&book_of(&[other, one])));
+    refused
+}
+
 fn class(class: u32) -> u32 {
     word(0, class)
 }
@@ -59,12 +77,17 @@ fn bytes(book: &[u32]) -> Vec<u8> {
     book.iter().flat_map(|word| word.to_le_bytes()).collect()
 }
 
+/// What `slate` prints of a day.
+fn printed(draft: &Draft) -> String {
+    model::slate(&bytes(&draft.words()))
+}
+
 #[test]
 fn m1_both_plans_as_slate_prints_them() {
     let text = "rows 2 plans 2\n\
                 plan 1 end 11 late 6 order 902 901\n\
                 plan 2 end 12 late 0 order 901 902\n";
-    assert_eq!(model::slate(&bytes(&m1().words())), text);
+    assert_eq!(printed(&m1()), text);
 }
 
 #[test]
@@ -73,7 +96,7 @@ fn m2_to_m6_three_rows() {
     assert_eq!(day.list(), [pair(25, 0)]);
     assert_eq!(day.order_of_plan(1), (pair(25, 0), vec![1, 2, 3]));
     let text = "rows 3 plans 1\nplan 1 end 25 late 0 order 901 902 903\n";
-    assert_eq!(model::slate(&bytes(&m2().words())), text);
+    assert_eq!(printed(&m2()), text);
     assert_eq!(day.order_for_bound(6), Some((pair(25, 6), vec![2, 1, 3])));
     assert_eq!(day.order_for_bound(0), Some((pair(25, 0), vec![1, 2, 3])));
     assert_eq!(day.order_for_bound_into(-1, &mut [0; 3]), refused(12, 0));
@@ -82,7 +105,7 @@ fn m2_to_m6_three_rows() {
 }
 
 #[test]
-fn m7_m8_the_ordering_rule() {
+fn m7_m8_rows_that_agree_and_disagree() {
     let mut draft = m1();
     draft.rows[1].due = 13;
     assert!(Day::read(&draft.words()).is_ok());
@@ -107,13 +130,7 @@ fn m9_to_m12_single_rows_and_ties() {
 
 #[test]
 fn m13_a_last_plan_without_a_comparison() {
-    let rows = [
-        (1, 1, 1, 5),
-        (2, 0, 10, 12),
-        (3, 101, 1, 104),
-        (4, 100, 20, 122),
-    ];
-    let day = day(&Draft::of(0, 60, &rows));
+    let day = day(&m13());
     assert_eq!(day.list(), [pair(121, 17), pair(122, 0)]);
     assert_eq!(day.order_of_plan(1).1, [2, 1, 4, 3]);
     assert_eq!(day.order_of_plan(2).1, [1, 2, 3, 4]);
@@ -161,7 +178,7 @@ fn refusals_in_their_sequence() {
     // An end word after row 1: count first, tail only where the count is right.
     assert_eq!(with(6, word(7, 3)), Some((6, 6)));
     assert_eq!(with(6, word(7, 1)), Some((7, 7)));
-    // A falling due alone, and with a tail before it in the sequence.
+    // A row that disagrees, alone, and with a tail before it in the sequence.
     assert_eq!(with(9, word(6, 4)), Some((8, 6)));
     let mut book = sound.clone();
     book[9] = word(6, 4);
@@ -218,6 +235,127 @@ fn slate_bytes() {
     assert_eq!(model::slate(&longer(3)), "refused 1 at 1027\n");
     for more in [4, 5, 7, 8, 4001] {
         assert_eq!(model::slate(&longer(more)), "refused 7 at 1027\n");
+    }
+}
+
+/// Every sequence of these.
+fn sequences<T: Copy>(items: &[T]) -> Vec<Vec<T>> {
+    if items.is_empty() {
+        return vec![Vec::new()];
+    }
+    let mut all = Vec::new();
+    for i in 0..items.len() {
+        let others = [&items[..i], &items[i + 1..]].concat();
+        for rest in sequences(&others) {
+            all.push([&[items[i]], &rest[..]].concat());
+        }
+    }
+    all
+}
+
+#[test]
+fn m1_m2_m13_in_every_sequence() {
+    for draft in [m1(), m2(), m13()] {
+        for rows in sequences(&draft.rows) {
+            let arrived = Draft { rows, ..draft };
+            assert_eq!(printed(&arrived), printed(&draft), "{arrived:?}");
+        }
+    }
+}
+
+#[test]
+fn two_rows_disagree_where_due_and_spare_are_both_smaller() {
+    // Due 50 and spare 30, beside rows of the same or another due and spare.
+    let beside = |due: u32, spare: u32| {
+        let one = (10, 10, word(6, 50));
+        in_either_order(one, (due - spare - 4, 4, word(6, due)))
+    };
+    for due in 48..=52 {
+        for spare in 28..=32 {
+            let disagree = due < 50 && spare < 30 || due > 50 && spare > 30;
+            assert_eq!(beside(due, spare), disagree.then_some((8, 6)));
+        }
+    }
+    // Due 0 and spare -20, beside spares of -19 to -21.
+    let beside = |pages: u32, last: u32| in_either_order((10, 10, due(0)), (10, pages, last));
+    assert_eq!(beside(9, due(0)), None);
+    assert_eq!(beside(12, due(1)), None);
+    assert_eq!(beside(11, due(1)), None);
+    assert_eq!(beside(10, due(1)), Some((8, 6)));
+}
+
+#[test]
+fn the_earliest_row_that_disagrees() {
+    // M8's rows disagree; the third agrees with both.
+    let (one, other, third) = ((1, 1, due(5)), (0, 10, due(14)), (20, 5, due(27)));
+    for rows in sequences(&[one, other, third]) {
+        let later = if rows[2] == third { 6 } else { 10 };
+        assert_eq!(refusal(&book_of(&rows)), Some((8, later)));
+    }
+    // A hundred rows between them that agree with both.
+    let apart = [vec![one], vec![third; 100], vec![other, third]].concat();
+    assert_eq!(refusal(&book_of(&apart)), Some((8, 2 + 4 * 101)));
+    // Two more that disagree with each other alone. Where rows 3 and 4 both disagree with a row
+    // above, row 3 is told.
+    let (a, b) = ((43, 1, due(45)), (42, 10, due(54)));
+    assert_eq!(refusal(&book_of(&[a, one, third, b])), Some((8, 14)));
+    assert_eq!(refusal(&book_of(&[a, one, other, b])), Some((8, 10)));
+    assert_eq!(refusal(&book_of(&[a, one, b, other])), Some((8, 10)));
+    assert_eq!(refusal(&book_of(&[one, a, b, other])), Some((8, 10)));
+    // Row 1 disagrees with every other row, the others with none.
+    let late = (0, 1, due(1_000));
+    assert_eq!(refusal(&book_of(&[late, one, third, a])), Some((8, 6)));
+    assert_eq!(refusal(&book_of(&[one, third, a, late])), Some((8, 14)));
+}
+
+#[test]
+fn equal_dues_go_by_release_plus_length() {
+    // Both are there at minute 10, due at 50. The sums are 10 and 7.
+    let rows = [(901, 0, 10, 50), (902, 5, 2, 50)];
+    for rows in sequences(&rows) {
+        let text = "rows 2 plans 1\nplan 1 end 22 late -28 order 902 901\n";
+        assert_eq!(printed(&Draft::of(10, 60, &rows)), text);
+    }
+    // The minute at which a row can start comes before: 901 at 10, 902 at 11, with sums 20 and 13.
+    for rows in sequences(&[(901, 0, 20, 50), (902, 11, 2, 50)]) {
+        let text = "rows 2 plans 1\nplan 1 end 32 late -18 order 901 902\n";
+        assert_eq!(printed(&Draft::of(10, 60, &rows)), text);
+    }
+}
+
+#[test]
+fn equal_dues_and_sums_go_by_row() {
+    // The sums are 10, 10, 10 and 8.
+    let rows = [(901, 0, 10, 50), (902, 5, 5, 50), (903, 9, 1, 50)];
+    for mut rows in sequences(&rows) {
+        let order = day(&Draft::of(10, 60, &rows)).order_of_plan(1);
+        assert_eq!(order, (pair(26, -24), vec![1, 2, 3]));
+        rows.push((904, 7, 1, 50));
+        let order = day(&Draft::of(10, 60, &rows)).order_of_plan(1);
+        assert_eq!(order, (pair(27, -23), vec![4, 1, 2, 3]));
+    }
+}
+
+/// The tie rule where the second pick is taken, and in what follows either pick.
+#[test]
+fn ties_in_both_blocks() {
+    // The long row can start at 0, the short ones at 1; their sums are 4 and 2.
+    for rows in sequences(&[(901, 0, 10, 14), (902, 1, 3, 9), (903, 1, 1, 9)]) {
+        let text = "rows 3 plans 2\n\
+                    plan 1 end 14 late 5 order 901 903 902\n\
+                    plan 2 end 15 late 1 order 903 902 901\n";
+        assert_eq!(printed(&Draft::of(0, 60, &rows)), text);
+    }
+    // Two short rows alike.
+    for rows in sequences(&[(901, 0, 10, 14), (902, 1, 3, 9), (903, 1, 3, 9)]) {
+        let short: Vec<_> = rows.iter().map(|row| row.0).filter(|&n| n != 901).collect();
+        let text = format!(
+            "rows 3 plans 2\n\
+             plan 1 end 16 late 7 order 901 {0} {1}\n\
+             plan 2 end 17 late 3 order {0} {1} 901\n",
+            short[0], short[1]
+        );
+        assert_eq!(printed(&Draft::of(0, 60, &rows)), text);
     }
 }
 
@@ -287,7 +425,7 @@ fn class_words_refused() {
 #[test]
 fn class_rows_and_due_rows() {
     // Both rows have release plus length 20; class 1 has a margin of 120.
-    let after = |above: u32, last: u32| refusal(&book_of(&[(10, 10, above), (15, 5, last)]));
+    let after = |above: u32, last: u32| in_either_order((10, 10, above), (15, 5, last));
     assert_eq!(after(class(1), class(1)), None);
     assert_eq!(after(class(1), due(140)), None);
     assert_eq!(after(class(1), due(139)), Some((8, 6)));
@@ -298,8 +436,7 @@ fn class_rows_and_due_rows() {
     assert_eq!(after(class(1), class(0)), Some((8, 6)));
     assert_eq!(after(class(1), class(2)), Some((8, 6)));
     // A lower class once release plus length has grown by what the margin falls: 60 minutes here.
-    let later =
-        |release: u32, last: u32| refusal(&book_of(&[(10, 10, class(1)), (release, 5, last)]));
+    let later = |release: u32, last: u32| in_either_order((10, 10, class(1)), (release, 5, last));
     assert_eq!(later(75, class(0)), None);
     assert_eq!(later(74, class(0)), Some((8, 6)));
     assert_eq!(later(10_000, class(0)), None);
@@ -309,49 +446,42 @@ fn class_rows_and_due_rows() {
     assert_eq!(later(75, due(200)), None);
     assert_eq!(later(75, due(201)), Some((8, 6)));
     // Range comes before disorder, and tail too.
-    assert_eq!(after(class(1), class(8)), Some((3, 9)));
+    let book = book_of(&[(10, 10, class(1)), (15, 5, class(8))]);
+    assert_eq!(refusal(&book), Some((3, 9)));
     let mut book = book_of(&[(10, 10, class(1)), (15, 5, class(2))]);
     book.push(class(0));
     assert_eq!(refusal(&book), Some((7, 11)));
 }
 
-/// Rows of one class: refused at the first due that falls, and otherwise never.
+/// Rows of one class are accepted in any sequence, whatever their releases and pages.
 #[test]
-fn one_class_is_in_order_where_no_due_falls() {
+fn one_class_is_accepted_in_any_order() {
     let seed = books::seed();
-    let (mut sound, mut fallen) = (0, 0);
+    let (mut sorted, mut unsorted) = (0, 0);
     for case in 0..6_000 * books::times() {
         let mut rng = Rng::for_case(seed, "one class", case);
-        let pace = rng.range(4, 120);
-        let class = rng.below(8) as u32;
         let count = rng.pick(&[1, 2, 3, 5, 8, 20, 256]);
         let last_release = rng.pick(&[0, 3, 100, 2_000, 10_000_000]);
         let last_page = rng.pick(&[1, 2, 10, 2_000]);
-        let mut rows: Vec<(i64, i64)> = (0..count)
-            .map(|_| (rng.range(0, last_release), rng.range(1, last_page)))
-            .collect();
-        let soonest = |&(release, pages): &(i64, i64)| release + model::length(pages, pace);
-        if !rng.one_in(3) {
-            rows.sort_by_key(soonest);
+        let row = |number| {
+            let (release, pages) = (rng.range(0, last_release), rng.range(1, last_page));
+            (number, release, pages, 0)
+        };
+        let rows: Vec<_> = (0..count).map(row).collect();
+        let draft = Draft::of(rng.range(0, 500), rng.range(4, 120), &rows);
+        let mut draft = draft.of_class(rng.below(8) as u32);
+        if rng.one_in(3) {
+            draft.rows.sort_by_key(|row| row.due);
         }
-        let mut book = vec![word(1, rng.range(0, 500) as u32), word(2, pace as u32)];
-        for (i, &(release, pages)) in rows.iter().enumerate() {
-            let (release, pages) = (word(4, release as u32), word(5, pages as u32));
-            book.extend([word(3, i as u32), release, pages, word(0, class)]);
-        }
-        book.push(word(7, rows.len() as u32));
-        let falls = rows
-            .windows(2)
-            .position(|w| soonest(&w[1]) < soonest(&w[0]));
-        let want = falls.map(|above| (8, 2 + 4 * (above + 1)));
-        assert_eq!(refusal(&book), want, "seed {seed:#x}, case {case}");
-        match want {
-            None => sound += 1,
-            Some(_) => fallen += 1,
+        let day = Day::read(&draft.words());
+        let day = day.unwrap_or_else(|r| panic!("seed {seed:#x}, case {case}: {r:?} {draft:?}"));
+        match day.is_sorted() {
+            true => sorted += 1,
+            false => unsorted += 1,
         }
     }
-    println!("one class: seed {seed:#x}, {sound} books accepted, {fallen} with a due that falls");
-    assert!(sound > 3_000 && fallen > 300);
+    println!("one class: seed {seed:#x}, {sorted} books sorted, {unsorted} not");
+    assert!(sorted > 2_000 && unsorted > 2_000);
 }
 
 /// A row's record and the words at its place say the same class or due.
@@ -383,7 +513,7 @@ fn row_words_give_back_the_class() {
 /// The model's method against the definitions, by trying every order.
 fn against_every_order(test: &str, books: u64, least: usize, most: usize) {
     let seed = books::seed();
-    let (mut several, mut unkept, mut classed) = (0, 0, 0);
+    let (mut several, mut unkept, mut classed, mut unsorted) = (0, 0, 0, 0);
     for case in 0..books {
         let mut rng = Rng::for_case(seed, test, case);
         let rows = rng.range(least as i64, most as i64) as usize;
@@ -392,8 +522,9 @@ fn against_every_order(test: &str, books: u64, least: usize, most: usize) {
         let day = day(&draft);
         let every = day.every_pair();
         assert_eq!(day.list(), day.list_by_definition(), "{context}");
-        several += usize::from(day.list().len() > 1);
-        classed += usize::from(day.has_classes());
+        several += u64::from(day.list().len() > 1);
+        classed += u64::from(day.has_classes());
+        unsorted += u64::from(!day.is_sorted());
         let mut bounds = vec![i32::MIN, i32::MAX, -1, 0, 1];
         bounds.extend(every.iter().take(40).flat_map(|p| [p.late - 1, p.late]));
         for bound in bounds {
@@ -424,8 +555,8 @@ fn against_every_order(test: &str, books: u64, least: usize, most: usize) {
         let beaten = every.iter().any(|other| other.beats(pair));
         assert_eq!(plan.is_some(), beaten, "{posting:?}, {context}");
     }
-    println!("{test}: seed {seed:#x}, {books} books of {least} to {most} rows, {several} with several plans, {classed} with class rows, {unkept} unkept bounds");
-    assert!(several as u64 > books / 20 && unkept > 0 && classed as u64 > books / 5);
+    println!("{test}: seed {seed:#x}, {books} books of {least} to {most} rows, {several} with several plans, {classed} with class rows, {unsorted} unsorted, {unkept} unkept bounds");
+    assert!(several > books / 20 && unkept > 0 && classed > books / 5 && unsorted > books / 4);
 }
 
 #[test]
@@ -445,24 +576,207 @@ fn every_order_of_eight_rows() {
 
 #[test]
 fn every_plan_of_the_days_with_many() {
-    for rows in 2..=8 {
-        let day = day(&books::many_plans(rows));
-        assert_eq!(day.list().len(), rows);
-        assert_eq!(day.list(), day.list_by_definition());
+    for rows in (2..=9).chain([32, 128, 200, 229, 230, 231, 244, 256]) {
+        let draft = books::many_plans(rows);
+        let sorted = day(&draft);
+        let unsorted = day(&draft.shuffled(&mut Rng::new(rows as u64)));
+        assert_eq!(sorted.list().len(), rows.min(230));
+        assert_eq!(unsorted.list(), sorted.list());
+        if rows <= 8 {
+            assert_eq!(sorted.list(), sorted.list_by_definition());
+        }
     }
-    for rows in [9, 32, 128, 200, 229, 230] {
-        assert_eq!(day(&books::many_plans(rows)).list().len(), rows);
+}
+
+/// How often what came up.
+#[derive(Default)]
+struct Counts(BTreeMap<String, usize>);
+
+impl Counts {
+    fn add(&mut self, what: impl Into<String>) {
+        *self.0.entry(what.into()).or_default() += 1;
     }
-    for rows in [231, 244, 256] {
-        assert_eq!(day(&books::many_plans(rows)).list().len(), 230);
+
+    fn add_if(&mut self, so: bool, what: &str) {
+        if so {
+            self.add(what);
+        }
     }
+
+    fn at_least(&self, least: usize, what: impl AsRef<str>) {
+        let have = self.0.get(what.as_ref()).copied().unwrap_or(0);
+        assert!(have >= least, "{}: {have}", what.as_ref());
+    }
+}
+
+/// The pairs of rows that disagree, counted from 0, by the later of the two, in a book that passes
+/// the tests 1 to 7.
+fn at_odds(book: &[u32]) -> Vec<(usize, usize)> {
+    let value = |place: usize| book[place] & 0x1fff_ffff;
+    let due_and_spare = |place: usize| {
+        let length = model::length(value(place + 2).into(), value(1).into());
+        let reach = i64::from(value(place + 1)) + length;
+        let last = value(place + 3);
+        let due = match book[place + 3] >> 29 {
+            0 => reach + model::MARGINS[last as usize],
+            _ => last.into(),
+        };
+        (due, due - reach)
+    };
+    let places = (2..book.len() - 1).step_by(4);
+    let rows: Vec<(i64, i64)> = places.map(due_and_spare).collect();
+    let pairs = (0..rows.len()).flat_map(|later| (0..later).map(move |earlier| (earlier, later)));
+    let disagree = |&(a, b): &(usize, usize)| {
+        let (due, spare) = (rows[a].0 - rows[b].0, rows[a].1 - rows[b].1);
+        due.signum() * spare.signum() == 1
+    };
+    pairs.filter(disagree).collect()
+}
+
+/// What decides the ties in the orders of the plans, release plus length or the row.
+fn count_ties(counts: &mut Counts, day: &Day) {
+    let mut kinds = BTreeSet::new();
+    for plan in 1..=day.list().len() {
+        let order = day.order_of_plan(plan).1;
+        let mut minute = day.free;
+        for i in 0..order.len() {
+            kinds.extend(ties_at(day, minute, &order[i..]));
+            let row = day.rows[order[i] as usize - 1];
+            minute = minute.max(row.release) + row.length;
+        }
+    }
+    for kind in kinds {
+        counts.add(kind);
+    }
+}
+
+/// What decides that the first of these rows is taken before the others. Of those that can start as
+/// soon and are due as soon, none has a smaller sum, and none the same sum and a smaller row.
+fn ties_at(day: &Day, minute: i64, rows: &[u32]) -> Vec<String> {
+    let row = |number: u32| day.rows[number as usize - 1];
+    let ready = |number: u32| minute.max(row(number).release);
+    let (taken, left) = (rows[0], &rows[1..]);
+    let pick = match left.iter().any(|&other| ready(other) < ready(taken)) {
+        true => "second",
+        false => "first",
+    };
+    let mut kinds = Vec::new();
+    for &other in left {
+        if (ready(other), row(other).due) != (ready(taken), row(taken).due) {
+            continue;
+        }
+        let (sum, others) = (row(taken).reach(), row(other).reach());
+        assert!((sum, taken) < (others, other), "{day:?}");
+        if taken > other {
+            kinds.push(format!("a {pick} pick by release plus length"));
+        }
+        if sum == others {
+            kinds.push(format!("a {pick} pick by row"));
+        }
+        if sum == others && row(taken).release != row(other).release {
+            kinds.push("a pick by row, of different releases".to_string());
+        }
+    }
+    kinds
+}
+
+fn count_accepted(counts: &mut Counts, day: &Day) {
+    let rows = &day.rows;
+    let plans = day.list();
+    counts.add_if(rows.len() > 100, "over 100 rows");
+    counts.add(match plans.len() {
+        1 => "1 plan",
+        2 => "2 plans",
+        3 => "3 plans",
+        4..=9 => "4 to 9 plans",
+        _ => "10 plans and more",
+    });
+    counts.add_if(plans.iter().any(|pair| pair.late < 0), "early");
+    let lengths: i64 = rows.iter().map(|row| row.length).sum();
+    counts.add_if(i64::from(plans[0].end) > day.free + lengths, "idle");
+    let some = |is: fn(&Row, &Row) -> bool| {
+        let above = |(i, row)| rows[..i].iter().any(|above| is(above, row));
+        rows.iter().enumerate().any(above)
+    };
+    counts.add_if(some(|a, b| a.due == b.due), "equal dues");
+    let spares = some(|a, b| a.due == b.due && a.reach() != b.reach());
+    counts.add_if(spares, "equal dues of different spares");
+    let releases = some(|a, b| a.reach() == b.reach() && a.release != b.release);
+    counts.add_if(releases, "equal sums of different releases");
+    counts.add_if(day.is_sorted(), "sorted");
+    counts.add_if(!day.is_sorted(), "unsorted");
+}
+
+fn count_classes(counts: &mut Counts, day: &Day) {
+    let classes: BTreeSet<_> = day.rows.iter().filter_map(|row| row.class).collect();
+    for class in &classes {
+        counts.add(format!("class {class}"));
+    }
+    counts.add_if(day.has_classes(), "class rows");
+    let several = day.has_classes() && day.list().len() > 1;
+    counts.add_if(several, "class rows, several plans");
+    counts.add_if(classes.len() > 1, "several classes");
+    let all = day.rows.iter().all(|row| row.class.is_some());
+    let one = day.rows.len() > 1 && classes.len() == 1 && all;
+    counts.add_if(one, "one class");
+    counts.add_if(one && !day.is_sorted(), "one class, unsorted");
+    let next_to = |above: bool, row: bool| {
+        let pair = |w: &[Row]| (w[0].class.is_some(), w[1].class.is_some()) == (above, row);
+        day.rows.windows(2).any(pair)
+    };
+    counts.add_if(next_to(true, false), "a due row after a class row");
+    counts.add_if(next_to(false, true), "a class row after a due row");
+}
+
+fn count_refused(counts: &mut Counts, book: &[u32], refusal: Refusal) {
+    let Refusal { number, place } = refusal;
+    counts.add(format!("refused {number}"));
+    if place > 20 {
+        counts.add(format!("refused {number} beyond place 20"));
+    }
+    // What of it has to do with classes.
+    let name = match place {
+        0 => "free",
+        1 => "pace",
+        _ if place % 4 == 2 && place + 1 == book.len() => "end",
+        _ => ["number", "release", "pages", "last"][(place - 2) % 4],
+    };
+    let class = book.get(place).filter(|&word| word >> 29 == 0);
+    match (number, name, class) {
+        (1, "last", _) => counts.add("cut at a row's last word"),
+        (2, "last", _) => counts.add("another kind at a row's last word"),
+        (2, _, Some(_)) => counts.add(format!("kind 0 at the {name} word")),
+        (3, _, Some(8)) => counts.add("refused class 8"),
+        (3, _, Some(0x1fff_ffff)) => counts.add("refused class of all bits"),
+        (3, _, Some(_)) => counts.add("refused class between"),
+        (8, ..) => count_disorder(counts, book, place),
+        _ => {}
+    }
+}
+
+/// The pairs that disagree in a book that is refused for it. The earliest row that disagrees with
+/// any above it is told.
+fn count_disorder(counts: &mut Counts, book: &[u32], place: usize) {
+    let pairs = at_odds(book);
+    let (_, told) = pairs[0];
+    assert_eq!(place, 2 + 4 * told);
+    let above: Vec<usize> = pairs.iter().filter(|p| p.1 == told).map(|p| p.0).collect();
+    let not_above = !above.contains(&(told - 1));
+    counts.add_if(not_above, "disorder, not with the row above");
+    counts.add_if(pairs.len() == 1, "disorder of two rows");
+    let far = pairs.len() == 1 && told - above[0] > 8;
+    counts.add_if(far, "disorder of two rows far apart");
+    let later = pairs.iter().any(|pair| pair.1 > told);
+    counts.add_if(later, "disorder, of a later row too");
+    let of_class = |row: usize| book[4 * row + 5] >> 29 == 0;
+    let classed = of_class(told) || above.iter().any(|&row| of_class(row));
+    counts.add_if(classed, "disorder with a class row");
 }
 
 #[test]
 fn the_maker_makes_what_it_says() {
     let seed = books::seed();
-    let mut counts = BTreeMap::new();
-    let mut count = |what: &str| *counts.entry(what.to_string()).or_insert(0) += 1;
+    let mut counts = Counts::default();
     for case in 0..4_000 {
         let mut rng = Rng::for_case(seed, "maker", case);
         let rows = match case {
@@ -473,91 +787,22 @@ fn the_maker_makes_what_it_says() {
         let book = draft.words();
         let day = Day::read(&book);
         let day = day.unwrap_or_else(|r| panic!("seed {seed:#x}, case {case}: {r:?} {draft:?}"));
-        if rows > 100 {
-            count("over 100 rows");
-        }
-        let plans = day.list();
-        count(match plans.len() {
-            1 => "1 plan",
-            2 => "2 plans",
-            3 => "3 plans",
-            4..=9 => "4 to 9 plans",
-            _ => "10 plans and more",
-        });
-        if plans.iter().any(|pair| pair.late < 0) {
-            count("early");
-        }
-        let lengths: i64 = day.rows.iter().map(|row| row.length).sum();
-        if i64::from(plans[0].end) > day.free + lengths {
-            count("idle");
-        }
-        if day.rows.windows(2).any(|w| w[0].due == w[1].due) {
-            count("equal dues");
-        }
-        let classes: BTreeSet<_> = day.rows.iter().filter_map(|row| row.class).collect();
-        for class in &classes {
-            count(&format!("class {class}"));
-        }
-        if day.has_classes() {
-            count("class rows");
-            if plans.len() > 1 {
-                count("class rows, several plans");
-            }
-        }
-        if classes.len() > 1 {
-            count("several classes");
-        }
-        if rows > 1 && classes.len() == 1 && day.rows.iter().all(|row| row.class.is_some()) {
-            count("one class");
-        }
-        let next_to = |above: bool, row: bool| {
-            let pair = |w: &[Row]| (w[0].class.is_some(), w[1].class.is_some()) == (above, row);
-            day.rows.windows(2).any(pair)
-        };
-        if next_to(true, false) {
-            count("a due row after a class row");
-        }
-        if next_to(false, true) {
-            count("a class row after a due row");
-        }
+        assert!(at_odds(&book).is_empty(), "seed {seed:#x}, case {case}");
+        count_accepted(&mut counts, &day);
+        count_ties(&mut counts, &day);
+        count_classes(&mut counts, &day);
         for _ in 0..4 {
             let book = books::damaged(&mut rng, &book);
             match Day::read(&book) {
-                Ok(_) => count("damaged, yet accepted"),
-                Err(Refusal { number, place }) => {
-                    count(&format!("refused {number}"));
-                    if place > 20 {
-                        count(&format!("refused {number} beyond place 20"));
-                    }
-                    // What of it has to do with classes.
-                    let name = match place {
-                        0 => "free",
-                        1 => "pace",
-                        _ if place % 4 == 2 && place + 1 == book.len() => "end",
-                        _ => ["number", "release", "pages", "last"][(place - 2) % 4],
-                    };
-                    let class = book.get(place).filter(|&word| word >> 29 == 0);
-                    match (number, name, class) {
-                        (1, "last", _) => count("cut at a row's last word"),
-                        (2, "last", _) => count("another kind at a row's last word"),
-                        (2, _, Some(_)) => count(&format!("kind 0 at the {name} word")),
-                        (3, _, Some(8)) => count("refused class 8"),
-                        (3, _, Some(0x1fff_ffff)) => count("refused class of all bits"),
-                        (3, _, Some(_)) => count("refused class between"),
-                        _ => {}
-                    }
-                    if number == 8 && (book[place - 1] >> 29 == 0 || book[place + 3] >> 29 == 0) {
-                        count("refused 8 at or after a class row");
-                    }
+                Ok(_) => {
+                    assert!(at_odds(&book).is_empty(), "seed {seed:#x}, case {case}");
+                    counts.add("damaged, yet accepted");
                 }
+                Err(refusal) => count_refused(&mut counts, &book, refusal),
             }
         }
     }
-    println!("maker: seed {seed:#x}, {counts:?}");
-    let least = |what: &str, least: i32| {
-        let have = counts.get(what).copied().unwrap_or(0);
-        assert!(have >= least, "{what}: {have}");
-    };
+    println!("maker: seed {seed:#x}, {:?}", counts.0);
     for what in [
         "1 plan",
         "2 plans",
@@ -566,7 +811,13 @@ fn the_maker_makes_what_it_says() {
         "early",
         "idle",
         "equal dues",
+        "equal dues of different spares",
+        "equal sums of different releases",
+        "a first pick by release plus length",
+        "a first pick by row",
+        "a pick by row, of different releases",
         "one class",
+        "one class, unsorted",
         "several classes",
         "a due row after a class row",
         "a class row after a due row",
@@ -576,20 +827,94 @@ fn the_maker_makes_what_it_says() {
         "refused class 8",
         "refused class between",
         "refused class of all bits",
-        "refused 8 at or after a class row",
+        "disorder with a class row",
+        "disorder of two rows",
+        "disorder, not with the row above",
+        "disorder, of a later row too",
     ] {
-        least(what, 100);
+        counts.at_least(100, what);
     }
-    least("10 plans and more", 20);
-    least("class rows", 1_200);
+    counts.at_least(20, "10 plans and more");
+    counts.at_least(20, "a second pick by release plus length");
+    counts.at_least(60, "a second pick by row");
+    counts.at_least(1_200, "class rows");
+    counts.at_least(1_200, "sorted");
+    counts.at_least(1_600, "unsorted");
     for class in 0..8 {
-        least(&format!("class {class}"), 100);
+        counts.at_least(100, format!("class {class}"));
     }
     for name in ["free", "pace", "number", "release", "pages", "end"] {
-        least(&format!("kind 0 at the {name} word"), 20);
+        counts.at_least(20, format!("kind 0 at the {name} word"));
     }
     for number in 1..=8 {
-        least(&format!("refused {number}"), 100);
-        least(&format!("refused {number} beyond place 20"), 40);
+        counts.at_least(100, format!("refused {number}"));
+        counts.at_least(40, format!("refused {number} beyond place 20"));
     }
+}
+
+/// Two rows disagree, or two and two others, and nothing else is wrong.
+#[test]
+fn the_maker_of_disorder() {
+    let seed = books::seed();
+    let mut counts = Counts::default();
+    for case in 0..4_000 {
+        let mut rng = Rng::for_case(seed, "disorder", case);
+        let rows = match case {
+            0..=254 => case as usize + 2,
+            _ => rng.range(2, 48) as usize,
+        };
+        let draft = books::disagreeing(&mut rng, rows);
+        let book = draft.words();
+        let context = format!("seed {seed:#x}, case {case}: {draft:?}");
+        let refusal = Day::read(&book).expect_err(&context);
+        assert_eq!(refusal.number, 8, "{context}");
+        match at_odds(&book)[..] {
+            [_] => {}
+            [(a, b), (c, d)] => assert_eq!(BTreeSet::from([a, b, c, d]).len(), 4, "{context}"),
+            _ => panic!("{context}"),
+        }
+        count_disorder(&mut counts, &book, refusal.place);
+    }
+    println!("maker of disorder: seed {seed:#x}, {:?}", counts.0);
+    for what in [
+        "disorder with a class row",
+        "disorder, not with the row above",
+        "disorder, of a later row too",
+        "disorder of two rows far apart",
+    ] {
+        counts.at_least(200, what);
+    }
+}
+
+/// A book and its sorted rows give the same plans in the same orders, the book turned about the same
+/// plans, in the same orders unless rows are equal in due and in release plus length.
+#[test]
+fn the_sequence_of_rows_decides_ties_alone() {
+    let seed = books::seed();
+    let (mut unsorted, mut tied, mut by_row) = (0, 0, 0);
+    for case in 0..3_000 * books::times() {
+        let mut rng = Rng::for_case(seed, "sequence", case);
+        let rows = books::some_rows(&mut rng, 48);
+        let draft = match rng.below(3) {
+            0 => books::ties(&mut rng, rows).varied(&mut rng),
+            _ => books::accepted(&mut rng, rows),
+        };
+        let context = format!("seed {seed:#x}, case {case}: {draft:?}");
+        let text = printed(&draft);
+        let key = |row: &DraftRow| (row.due, draft.reach(row));
+        let mut sorted = draft.clone();
+        sorted.rows.sort_by_key(key);
+        assert_eq!(printed(&sorted), text, "{context}");
+        let mut turned = draft.clone();
+        turned.rows.reverse();
+        assert_eq!(day(&turned).list(), day(&draft).list(), "{context}");
+        let ties = sorted.rows.windows(2).any(|w| key(&w[0]) == key(&w[1]));
+        let other = printed(&turned) != text;
+        assert!(ties || !other, "{context}");
+        unsorted += u64::from(!day(&draft).is_sorted());
+        tied += u64::from(ties);
+        by_row += u64::from(other);
+    }
+    println!("sequence: seed {seed:#x}, {unsorted} books unsorted, {tied} with ties, {by_row} with an order that goes by row");
+    assert!(unsorted > 1_000 && tied > 1_000 && by_row > 500);
 }

@@ -39,7 +39,7 @@ fn long_books() {
             0 => MAX_ROWS,
             _ => 100 + rng.below(157),
         };
-        let book = books::typical_day(rng, rows).with_classes(rng).words();
+        let book = books::typical_day(rng, rows).varied(rng).words();
         match i % 3 {
             0 => books::damaged(rng, &book),
             _ => book,

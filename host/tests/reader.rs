@@ -3,7 +3,7 @@
 
 mod common;
 
-use common::{compare, fail, fault, Call, Case};
+use common::{compare, fail, fault, Accepted, Call, Case};
 use jelvaksna::books::{self, Rng};
 use jelvaksna::model::{self, Day, MAX_ROWS};
 use jelvaksna::{linked, refusal};
@@ -45,9 +45,7 @@ fn printed(words: &[u32]) -> String {
 #[derive(Default)]
 struct Tally {
     odd: u64,
-    accepted: u64,
-    /// Accepted, with class rows.
-    classed: u64,
+    accepted: Accepted,
     refused: [u64; 9],
 }
 
@@ -66,10 +64,7 @@ fn look(case: Case, rng: &mut Rng, input: &[u8], tally: &mut Tally) {
     };
     let day = Day::read(&words);
     match &day {
-        Ok(day) => {
-            tally.accepted += 1;
-            tally.classed += u64::from(day.has_classes());
-        }
+        Ok(day) => tally.accepted.count(day),
         Err(no) => tally.refused[no.number as usize] += 1,
     }
     compare(case, &words, &day, &Call::List { len: 2 * MAX_ROWS });
@@ -112,11 +107,10 @@ fn inputs(test: &'static str, count: u64, mut make: impl FnMut(&mut Rng, u64) ->
     let Tally {
         odd,
         accepted,
-        classed,
         refused,
     } = tally;
-    println!("{test}: seed {seed:#x}, {count} inputs, {odd} with odd bytes, {accepted} accepted, {classed} with class rows, refused 1 to 8: {:?}", &refused[1..]);
-    assert!(accepted < 20 || classed > accepted / 6, "{test}");
+    println!("{test}: seed {seed:#x}, {count} inputs, {odd} with odd bytes, {accepted}, refused 1 to 8: {:?}", &refused[1..]);
+    accepted.check(test);
 }
 
 /// 300,000 inputs of random bytes and words.
@@ -191,7 +185,7 @@ fn long_inputs() {
             0 => MAX_ROWS,
             _ => 1 + rng.below(MAX_ROWS),
         };
-        let mut book = books::typical_day(rng, rows).with_classes(rng).words();
+        let mut book = books::typical_day(rng, rows).varied(rng).words();
         if !rng.one_in(8) {
             book = books::damaged(rng, &book);
         }
@@ -209,7 +203,7 @@ fn the_program() {
         "target/bin/slate is missing: run 'rt check slate' first"
     );
     let count = 400 * books::times();
-    let mut classed = 0;
+    let mut accepted = Accepted::default();
     for i in 0..count {
         let case = Case::new(test, i);
         let mut rng = case.rng();
@@ -221,7 +215,9 @@ fn the_program() {
         if rng.one_in(3) {
             book = books::damaged(&mut rng, &book);
         }
-        classed += u64::from(Day::read(&book).is_ok_and(|day| day.has_classes()));
+        if let Ok(day) = Day::read(&book) {
+            accepted.count(&day);
+        }
         let mut input = bytes(&mut rng, &book);
         if rng.one_in(20) {
             input.extend(vec![0; rng.below(9_000)]);
@@ -246,8 +242,6 @@ fn the_program() {
             fail(case, &book, &"slate", &what);
         }
     }
-    println!(
-        "{test}: {count} inputs to target/bin/slate, {classed} of accepted books with class rows"
-    );
-    assert!(classed > count / 10);
+    println!("{test}: {count} inputs to target/bin/slate, {accepted}");
+    assert!(accepted.classed > count / 10 && accepted.unsorted > count / 10);
 }

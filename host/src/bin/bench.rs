@@ -98,8 +98,12 @@ fn main() {
     println!("| day | rows | plans | call | archive µs | model µs | archive / model |");
     println!("|---|---:|---:|---|---:|---:|---:|");
     let typical = |rows: usize| books::typical_day(&mut Rng::for_case(seed, "bench", 1), rows);
-    let days: [(&str, &dyn Fn(usize) -> Draft); 2] =
-        [("typical", &typical), ("worst", &books::many_plans)];
+    let unsorted = |rows: usize| typical(rows).shuffled(&mut Rng::for_case(seed, "bench", 2));
+    let days: [(&str, &dyn Fn(usize) -> Draft); 3] = [
+        ("typical", &typical),
+        ("typical, unsorted", &unsorted),
+        ("worst", &books::many_plans),
+    ];
     let mut growth = Vec::new();
     for (name, make) in days {
         let mut all = Vec::new();

@@ -209,8 +209,45 @@ pub enum Effort {
     All,
 }
 
-/// Makes books and hands each call that suits them to `compare`. A good part of the accepted books,
-/// if they are more than a few, has class rows.
+/// What the accepted books of a test are like.
+#[derive(Default)]
+pub struct Accepted {
+    books: u64,
+    /// Of more than one row.
+    several: u64,
+    pub classed: u64,
+    pub unsorted: u64,
+}
+
+impl Accepted {
+    pub fn count(&mut self, day: &Day) {
+        self.books += 1;
+        self.several += u64::from(day.rows.len() > 1);
+        self.classed += u64::from(day.has_classes());
+        self.unsorted += u64::from(!day.is_sorted());
+    }
+
+    /// If there are more than a few, a good part has class rows, and a good part unsorted rows.
+    pub fn check(&self, test: &str) {
+        assert!(self.books < 20 || self.classed > self.books / 6, "{test}");
+        let enough = self.several < 20 || self.unsorted > self.several / 6;
+        assert!(enough, "{test}");
+    }
+}
+
+impl std::fmt::Display for Accepted {
+    fn fmt(&self, f: &mut std::fmt::Formatter) -> std::fmt::Result {
+        let Accepted {
+            books,
+            several,
+            classed,
+            unsorted,
+        } = self;
+        write!(f, "{books} accepted, {several} of several rows, {classed} with class rows, {unsorted} unsorted")
+    }
+}
+
+/// Makes books and hands each call that suits them to `compare`.
 pub fn each_call(
     test: &'static str,
     count: u64,
@@ -218,7 +255,7 @@ pub fn each_call(
     mut make: impl FnMut(&mut Rng, u64) -> Vec<u32>,
     mut compare: impl FnMut(Case, &[u32], &Result<Day, Refusal>, &Call),
 ) {
-    let (mut made, mut accepted, mut classed, mut plans) = (0, 0, 0, 0);
+    let (mut made, mut plans, mut accepted) = (0, 0, Accepted::default());
     for i in 0..count {
         let case = Case::new(test, i);
         let mut rng = case.rng();
@@ -229,14 +266,15 @@ pub fn each_call(
             made += 1;
         }
         if let Ok(day) = &day {
-            accepted += 1;
-            classed += usize::from(day.has_classes());
+            accepted.count(day);
             plans = plans.max(day.list().len());
         }
     }
     let seed = books::seed();
-    println!("{test}: seed {seed:#x}, {count} books, {accepted} accepted, {classed} with class rows, at most {plans} plans, {made} calls");
-    assert!(accepted < 20 || classed > accepted / 6, "{test}");
+    println!(
+        "{test}: seed {seed:#x}, {count} books, {accepted}, at most {plans} plans, {made} calls"
+    );
+    accepted.check(test);
 }
 
 /// Calls that suit a book: buffers that fit, that are one too short, longer or empty, bounds around
