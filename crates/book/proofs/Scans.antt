@@ -3,9 +3,10 @@
 use Prim.Native.Nat.{ℕ, suc, _+_, _*_, _≤_, _<_}
 use native.Mathlib.Omega.{arith}
 use native.Mathlib.Numerals.{add-one}
-use mathlib.Core.Bool.{Bool, true, false}
-use mathlib.Core.Path.{_≡_, ap}
+use mathlib.Core.Bool.{Bool, true, false, _||_}
+use mathlib.Core.Path.{_≡_, refl, ap}
 use mathlib.Core.List.{List, [], _∷_, _++_}
+use lib.Dec.{eqb}
 use lib.ListN.{length, take, drop, getD, drop-of-length-le}
 use lib.Seq.{take-suc, drop-cons}
 use Rattle.schedule.specs.declared.Row.{Row}
@@ -13,7 +14,7 @@ use Rattle.schedule.specs.Rows.{noRow}
 use Rattle.book.specs.declared.Tested.{Tested}
 use Rattle.book.specs.declared.Tested.the-variants.{Passed, Refused}
 use Rattle.book.specs.Refusals.{byDisorder, refuseIf, _then_}
-use Rattle.book.specs.Rows.{any}
+use Rattle.book.specs.Rows.{any, stands}
 use Rattle.book.specs.Order.{disagree, disorderFrom}
 
 -- The scan for an entry: the one at i passes the test; it does not; all entries are passed over.
@@ -29,6 +30,15 @@ module _ {A : Type 0} (test : A → Bool) (xs : List A) (none : A) (i : ℕ) whe
   pub any-end : length xs ≤ i → any test (drop i xs) ≡ false
   unfolding any
   any-end h = rw (drop-of-length-le xs h)
+
+-- Whether a number stands among no numbers, and among one more.
+pub stands-none : (n : ℕ) → stands n [] ≡ false
+unfolding stands any
+stands-none n = refl
+
+pub stands-more : (n m : ℕ) (ms : List ℕ) → stands n (m ∷ ms) ≡ (eqb n m || stands n ms)
+unfolding stands any
+stands-more n m ms = refl
 
 -- The scan for a disorder, at the row in place i, places counted from 0.
 abbrev pub disorderAt : List Row → ℕ → Tested

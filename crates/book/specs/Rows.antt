@@ -24,7 +24,7 @@ abbrev pub refusedOr : Tested → Contents → Contents
 refusedOr Passed c = c
 refusedOr (Refused n p) c = refused n p
 
--- Any entry of a list passes a test.
+-- Some entry of a list passes a test.
 unfoldable pub any : {A : Type 0} → (A → Bool) → List A → Bool
 any test [] = false
 any test (x ∷ xs) = test x || any test xs

@@ -15,8 +15,9 @@ use Rattle.schedule.proofs.Numbers.{count-range, from-mem, count-once}
 use Rattle.schedule.proofs.Tests.{nor, nor-both, is-false}
 use Rattle.book.specs.declared.Tested.the-variants.{Passed, Refused}
 use Rattle.book.specs.Refusals.{byNotPosting, refuseIf}
-use Rattle.book.specs.Rows.{any, stands}
+use Rattle.book.specs.Rows.{stands}
 use Rattle.book.proofs.Tests.{then-left, then-right, then-passes, not-refused, Says, if-says, then-says}
+use Rattle.book.proofs.Scans.{stands-none, stands-more}
 use Rattle.planner.specs.Posting.{entryTests, postingTests}
 
 not-eqb : (m n : ℕ) → ¬ (m ≡ n) → T (not (eqb m n))
@@ -59,10 +60,9 @@ record Left (n : ℕ) (seen left : List ℕ) : Type 0 where
   once : (k : ℕ) → count k left ≤ 1
 
 left-next : (n : ℕ) (seen left : List ℕ) (i : ℕ) → Left n seen left → List·Memᴰ i left → Left n (i ∷ seen) (without i left)
-unfolding stands any
 left-next n seen left i h m = record {
-  all = λ k p q t. let s = nor-both (eqb k i) (stands k seen) t in mem-other i left (eqb-not k i (s .0)) (h .all k p q (s .1));
-  row = λ k g. let r = h .row k (below g) in (r .0, r .1, nor (eqb k i) (stands k seen) (not-eqb k i (λ e. gone (subst (λ (x : ℕ). List·Memᴰ x (without i left)) e g))) (r .2));
+  all = λ k p q t. let s = nor-both (eqb k i) (stands k seen) (subst (λ (b : Bool). T (not b)) (stands-more k i seen) t) in mem-other i left (eqb-not k i (s .0)) (h .all k p q (s .1));
+  row = λ k g. let r = h .row k (below g) in (r .0, r .1, rw (stands-more k i seen) (nor (eqb k i) (stands k seen) (not-eqb k i (λ e. gone (subst (λ (x : ℕ). List·Memᴰ x (without i left)) e g))) (r .2)));
   once = λ k. omega (arith, h .once k, count-without i left m k);
 }
   where
@@ -112,8 +112,7 @@ order-entries n seen place (suc k) (i ∷ is) left h m =
     (order-entries n (i ∷ seen) (place + 1) k is (without i left) (left-next n seen left i h g) f)
 
 left-all : (n : ℕ) → Left n [] (countFrom 1 n)
-unfolding stands any
-left-all n = record { all = λ k p q t. from-mem k 1 n p (omega arith); row = λ k m. let r = count-range 1 n m in (r .0, omega (arith, r .1), tt); once = λ k. count-once k 1 n }
+left-all n = record { all = λ k p q t. from-mem k 1 n p (omega arith); row = λ k m. let r = count-range 1 n m in (r .0, omega (arith, r .1), rw (stands-none k) tt); once = λ k. count-once k 1 n }
 
 pub posting-order : (n : ℕ) (posting : List ℕ) → length (countFrom 1 n) ≡ n → postingTests n posting ≡ Passed → List·Memᴰ posting (ordersOf n (countFrom 1 n))
 unfolding postingTests

@@ -19,10 +19,11 @@ use Rattle.book.specs.declared.Tested.the-variants.{Passed, Refused}
 use Rattle.book.specs.Refusals.{byNotPosting, refuseIf, _then_}
 use Rattle.schedule.proofs.Tests.{neither}
 use Rattle.book.proofs.Tests.{never}
+use Rattle.book.proofs.Scans.{stands-none, stands-more}
 use Rattle.core.proofs.Signs.{lowered-le, lowered-lt}
 use Rattle.planner.specs.declared.Judged.the-variants as judged
 use Rattle.planner.specs.Calls.{judgedOf}
-use Rattle.book.specs.Rows.{any, stands}
+use Rattle.book.specs.Rows.{stands}
 use Rattle.planner.specs.Posting.{entryTests, postingTests}
 use Rattle.planner.specs.Working.{pairAt, pairsOf, orZero}
 use Rattle.planner.proofs.Held.{first-length, first-at}
@@ -115,12 +116,10 @@ all-false (suc n) zero = refl
 all-false (suc n) (suc i) = all-false n i
 
 pub marks-none : Marks (replicate 257 false) []
-unfolding stands any
-marks-none i = all-false 257 i
+marks-none i = all-false 257 i ∙ sym (stands-none i)
 
 pub marks-more : (seen : List Bool) (s : List ℕ) (k : ℕ) → k < length seen → Marks seen s → Marks (set seen k true) (k ∷ s)
-unfolding stands any
-marks-more seen s k h m i = go (ℕ-discrete i k)
+marks-more seen s k h m i = go (ℕ-discrete i k) ∙ sym (stands-more i k s)
   where
     go : Dec (i ≡ k) → getD (set seen k true) i false ≡ (eqb i k || stands i s)
     go (yes e) = subst (λ (j : ℕ). getD (set seen k true) j false ≡ (eqb j k || stands j s)) (sym e) (getD-set-same seen k true false h ∙ rw (eq-eqb k k refl) refl)
