@@ -6,10 +6,20 @@ use mathlib.Core.Bool.{Bool, true, false, not, cond}
 use mathlib.Core.Path.{_≡_, refl, sym, subst}
 use mathlib.Core.List.{List, [], _∷_, List·Memᴰ, List·Memᴰ·head, List·Memᴰ·tail, List·Memᴰ·eq-of-singleton, List·Memᴰ·cases-cons}
 use mathlib.Core.Logic.{_⊎_, inl, inr}
-use lib.Dec.{T, ltb, ltb→lt, nltb→le}
+use lib.Dec.{T, ltb→lt, nltb→le}
 use Rattle.theory.specs.Jobs.{Job, ready, finish}
 use Rattle.schedule.specs.Picks.{ahead, earliestEnd, outranks, before, leastOf, firstPick, decided, others, runFor}
 use Rattle.schedule.proofs.Tests.{Compared, compared}
+
+-- A comparison with what follows it: P where it says yes, Q where it says no.
+ahead-says : {P Q : Type 0} (a b : ℕ) (next : Bool) → (a < b → P) → (b < a → Q) → (a ≡ b → (T next → P) × (T (not next) → Q)) →
+    (T (ahead (compare a b) next) → P) × (T (not (ahead (compare a b) next)) → Q)
+ahead-says {P} {Q} a b next less more same = go (compare a b) (compared a b)
+  where
+    go : (o : Ordering) → Compared a b o → (T (ahead o next) → P) × (T (not (ahead o next)) → Q)
+    go Ordering·lt c = (λ h. less c, λ h. absurd h)
+    go Ordering·eq c = same c
+    go Ordering·gt c = (λ h. absurd h, λ h. more c)
 
 module _ (job : ℕ → Job) where
   -- One step of a run.
@@ -82,21 +92,13 @@ module _ (job : ℕ → Job) where
 
   -- The test says which of two rows is ahead.
   module _ (t i j : ℕ) where
-    decides : (o p q : Ordering) → Compared (ready (job i) t) (ready (job j) t) o → Compared (job i .due) (job j .due) p → Compared (earliestEnd (job i)) (earliestEnd (job j)) q →
-        let b = ahead o (ahead p (ahead q (ltb i j))) in (T b → Ahead t i j) × (T (not b) → Ahead t j i)
-    decides Ordering·lt p q c d e = (λ h. ready-ahead c, λ h. absurd h)
-    decides Ordering·gt p q c d e = (λ h. absurd h, λ h. ready-ahead c)
-    decides Ordering·eq Ordering·lt q c d e = (λ h. due-ahead c d, λ h. absurd h)
-    decides Ordering·eq Ordering·gt q c d e = (λ h. absurd h, λ h. due-ahead (sym c) d)
-    decides Ordering·eq Ordering·eq Ordering·lt c d e = (λ h. end-ahead c d e, λ h. absurd h)
-    decides Ordering·eq Ordering·eq Ordering·gt c d e = (λ h. absurd h, λ h. end-ahead (sym c) (sym d) e)
-    decides Ordering·eq Ordering·eq Ordering·eq c d e =
-        (λ h. let l : i < j = ltb→lt i j h in row-ahead c d e (omega arith), λ h. row-ahead (sym c) (sym d) (sym e) (nltb→le i j h))
-
     tested : (T (before job t i j) → Ahead t i j) × (T (not (before job t i j)) → Ahead t j i)
     unfolding before outranks
-    tested = decides (compare (ready (job i) t) (ready (job j) t)) (compare (job i .due) (job j .due)) (compare (earliestEnd (job i)) (earliestEnd (job j)))
-        (compared (ready (job i) t) (ready (job j) t)) (compared (job i .due) (job j .due)) (compared (earliestEnd (job i)) (earliestEnd (job j)))
+    tested =
+        ahead-says (ready (job i) t) (ready (job j) t) _ ready-ahead ready-ahead (λ r.
+        ahead-says (job i .due) (job j .due) _ (due-ahead r) (due-ahead (sym r)) (λ d.
+        ahead-says (earliestEnd (job i)) (earliestEnd (job j)) _ (end-ahead r d) (end-ahead (sym r) (sym d)) (λ e.
+        (λ h. let l : i < j = ltb→lt i j h in row-ahead r d e (omega arith), λ h. row-ahead (sym r) (sym d) (sym e) (nltb→le i j h)))))
 
     pub before-ahead : T (before job t i j) → Ahead t i j
     before-ahead = tested .0
