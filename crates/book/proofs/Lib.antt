@@ -2,6 +2,7 @@ pub mod Signed
 pub mod Tests
 pub mod Scans
 pub mod Tables
+pub mod NearestMinute
 pub mod Reached
 pub mod Whole
 pub mod Readings

@@ -51,8 +51,8 @@ unfolding readingOf tableOf
 reading-few (refused m q) h = omega arith
 reading-few (accepted free rows) h = h free rows refl
 
-pub rows-few : (free pace : ℕ) (ws : List ℕ) → 4 ≤ pace → readingOf (readRows 257 free pace [] 2 ws) .table .count ≤ 256
-rows-few free pace ws p = reading-few (readRows 257 free pace [] 2 ws) (λ f rs e. taken 257 free pace [] 2 ws f rs p refl e .few)
+pub rows-few : (free pace : ℕ) (ws : List ℕ) → readingOf (readRows 257 free pace [] 2 ws) .table .count ≤ 256
+rows-few free pace ws = reading-few (readRows 257 free pace [] 2 ws) (λ f rs e. taken 257 free pace [] 2 ws f rs refl e .few)
 
 -- What a caller knows of a reading that passed: the table's rows are those that the definition gives, they agree and are in range, and each is found at its place.
 pub record Given (ws : List ℕ) (t : Table) : Type 0 where

@@ -1,7 +1,6 @@
 -- What a book has whose rows are all read: its length in words, its count of rows, and every number in its range.
 -- Assumes nothing.
-use Prim.Native.Nat.{ℕ, zero, suc, _+_, _-_, _*_, _≤_, _<_}
-use native.Mathlib.Nat.{le-div-iff-mul-le, div-lt-iff-lt-mul}
+use Prim.Native.Nat.{ℕ, zero, suc, _+_, _*_, _≤_, _<_}
 use native.Mathlib.Omega.{arith}
 use mathlib.Core.Bool.{Bool, true, false, _&&_}
 use mathlib.Core.Path.{_≡_, refl, sym, ap, _∙_, subst}
@@ -24,6 +23,7 @@ use Rattle.book.specs.Rows.{Contents, refused, accepted, refusedOr, numb
 use Rattle.book.specs.Order.{orderTests}
 use Rattle.book.specs.Book.{headTests, inOrder, readWords, readBook}
 use Rattle.book.proofs.Tests.{never, and-left, and-right, then-right, not-refused, Fit, row-fits, HeadFit, head-fits}
+use Rattle.book.proofs.NearestMinute.{length-least, length-most}
 use Rattle.book.proofs.Reached.{read-end, read-on}
 
 -- Contents that are accepted passed the test before them.
@@ -53,27 +53,22 @@ pub by-number : (rows : List Row) → AllRanged rows → (i : ℕ) → List·Mem
 by-number rows r zero m = let x : ⊥ = omega (arith, count-range 1 (length rows) m .0) in absurd x
 by-number rows r (suc i) m = r i (omega (arith, count-range 1 (length rows) m .1))
 
--- Length lies between 1 and 30,000.
-length-least : (pages pace : ℕ) → 1 ≤ pages → 4 ≤ pace → 1 ≤ lengthOf pages pace
-length-least pages pace a c = le-div-iff-mul-le {k = pace} {x = 1} {y = pages * 60 + (pace - 1)} (omega arith) .1 (omega arith)
-
-pub length-most : (pages pace : ℕ) → pages ≤ 2000 → 4 ≤ pace → lengthOf pages pace ≤ 30000
-length-most pages pace b c =
-    let below : lengthOf pages pace < 30001 = div-lt-iff-lt-mul {k = pace} {x = pages * 60 + (pace - 1)} {y = 30001} (omega arith) .1 (omega arith) in
-    omega arith
-
 -- The due that a class gives.
 class-due : (k : Class) (release length told c : ℕ) → Margined k → k ≡ Of c → (c < 8) × (dueBy k release length told ≡ release + length + margin c)
 unfolding dueBy
 class-due None release length told c m e = never (cc)
 class-due (Of d) release length told c m e = let s : d ≡ c = cc in rw (← s) ((m, refl))
 
-row-ranged : (numbers : List ℕ) (pace : ℕ) (ws : List ℕ) → 4 ≤ pace → Fit numbers ws → RowRanged (rowOf pace ws)
+-- A pace that a book may tell.
+abbrev pub Paced : ℕ → Type 0
+Paced pace = (4 ≤ pace) × (pace ≤ 120)
+
+row-ranged : (numbers : List ℕ) (pace : ℕ) (ws : List ℕ) → Paced pace → Fit numbers ws → RowRanged (rowOf pace ws)
 row-ranged numbers pace ws h f =
-    let m = length-most (value (word ws 2)) pace (f .pages .most) h in
+    let m = length-most (value (word ws 2)) pace (f .pages .most) (h .0) in
     record {
       release = f .release .most;
-      least = length-least (value (word ws 2)) pace (f .pages .least) h;
+      least = length-least (value (word ws 2)) pace (f .pages .least) (h .0) (h .1);
       most = m;
       due = f .due .most (value (word ws 1)) (lengthOf (value (word ws 2)) pace) (f .release .most) m;
       class = λ c. class-due (classOf ws) (value (word ws 1)) (lengthOf (value (word ws 2)) pace) (value (word ws 3)) c (f .due .class);
@@ -90,17 +85,17 @@ ranged-on rows r h g i l = go (ltb i (length rows)) (ltb-true i (length rows)) (
         rw (getD-at rows r [] noRow i e) g
 
 -- The rows `rows` and the rest `ws` gave the rows `rs`.
-pub record Taken (free : ℕ) (rows : List Row) (ws : List ℕ) (f : ℕ) (rs : List Row) : Type 0 where
+pub record Taken (free pace : ℕ) (rows : List Row) (ws : List ℕ) (f : ℕ) (rs : List Row) : Type 0 where
   pub same-free : f ≡ free
   pub few : length rs ≤ 256
   pub some : 1 ≤ length rs
   pub words : length ws + 4 * length rows ≡ 4 * length rs + 1
-  pub ranged : AllRanged rows → AllRanged rs
+  pub ranged : Paced pace → AllRanged rows → AllRanged rs
 
-end-taken : (free : ℕ) (rows : List Row) (place : ℕ) (ws : List ℕ) (f : ℕ) (rs : List Row) → length rows ≤ 256 → endStands (length rows) ws ≡ true →
-    refusedOr (endTests (length rows) place ws) (accepted free rows) ≡ accepted f rs → Taken free rows ws f rs
+end-taken : (free pace : ℕ) (rows : List Row) (place : ℕ) (ws : List ℕ) (f : ℕ) (rs : List Row) → length rows ≤ 256 → endStands (length rows) ws ≡ true →
+    refusedOr (endTests (length rows) place ws) (accepted free rows) ≡ accepted f rs → Taken free pace rows ws f rs
 unfolding endStands endTests
-end-taken free rows place ws f rs few e r =
+end-taken free pace rows place ws f rs few e r =
     let o = or-tests (endTests (length rows) place ws) (accepted free rows) r in
     let k : accepted free rows ≡ accepted f rs = or-contents (endTests (length rows) place ws) (accepted free rows) r in
     let frees : f ≡ free = cc in
@@ -110,22 +105,22 @@ end-taken free rows place ws f rs few e r =
     let one : length ws ≤ 1 = ltb-false 1 (length ws) (not-refused (ltb 1 (length ws)) byTail (place + 1) (then-right _ _ o)) in
     let i : 0 < length rows = ltb-true 0 (length rows) (and-left (ltb 0 (length rows)) (ltb 0 (length ws) && seven) e) in
     let j : 0 < length ws = ltb-true 0 (length ws) (and-left (ltb 0 (length ws)) seven (and-right (ltb 0 (length rows)) (ltb 0 (length ws) && seven) e)) in
-    record { same-free = frees; few = omega arith; some = omega arith; words = omega arith; ranged = λ h. subst AllRanged (sym sames) h }
+    record { same-free = frees; few = omega arith; some = omega arith; words = omega arith; ranged = λ p h. subst AllRanged (sym sames) h }
 
-pub taken : (more free pace : ℕ) (rows : List Row) (place : ℕ) (ws : List ℕ) (f : ℕ) (rs : List Row) → 4 ≤ pace → length rows + more ≡ 257 →
-    readRows more free pace rows place ws ≡ accepted f rs → Taken free rows ws f rs
+pub taken : (more free pace : ℕ) (rows : List Row) (place : ℕ) (ws : List ℕ) (f : ℕ) (rs : List Row) → length rows + more ≡ 257 →
+    readRows more free pace rows place ws ≡ accepted f rs → Taken free pace rows ws f rs
 unfolding readRows
-taken zero free pace rows place ws f rs p h r = absurd (no-contents r)
-taken (suc more) free pace rows place ws f rs p h r =
-    go (endStands (length rows) ws) refl (λ n. taken more free pace (rows ++ (rowOf pace ws ∷ [])) (place + 4) (drop 4 ws) f rs p n)
+taken zero free pace rows place ws f rs h r = absurd (no-contents r)
+taken (suc more) free pace rows place ws f rs h r =
+    go (endStands (length rows) ws) refl (λ n. taken more free pace (rows ++ (rowOf pace ws ∷ [])) (place + 4) (drop 4 ws) f rs n)
   where
     next : Contents
     next = readRows more free pace (rows ++ (rowOf pace ws ∷ [])) (place + 4) (drop 4 ws)
 
     go : (b : Bool) → endStands (length rows) ws ≡ b →
-        (length (rows ++ (rowOf pace ws ∷ [])) + more ≡ 257 → next ≡ accepted f rs → Taken free (rows ++ (rowOf pace ws ∷ [])) (drop 4 ws) f rs) →
-        Taken free rows ws f rs
-    go true e later = end-taken free rows place ws f rs (omega arith) e (sym (read-end more free pace rows place ws e) ∙ r)
+        (length (rows ++ (rowOf pace ws ∷ [])) + more ≡ 257 → next ≡ accepted f rs → Taken free pace (rows ++ (rowOf pace ws ∷ [])) (drop 4 ws) f rs) →
+        Taken free pace rows ws f rs
+    go true e later = end-taken free pace rows place ws f rs (omega arith) e (sym (read-end more free pace rows place ws e) ∙ r)
     go false e later =
         let tests = rowTests (numbersOf rows) place ws in
         let q : refusedOr tests next ≡ accepted f rs = sym (read-on more free pace rows place ws e) ∙ r in
@@ -137,7 +132,7 @@ taken (suc more) free pace rows place ws f rs p h r =
           few = w .few;
           some = w .some;
           words = omega (arith, w .words, fit .due .there, length-drop 4 ws);
-          ranged = λ g. w .ranged (ranged-on rows (rowOf pace ws) g (row-ranged (numbersOf rows) pace ws p fit));
+          ranged = λ p g. w .ranged p (ranged-on rows (rowOf pace ws) g (row-ranged (numbersOf rows) pace ws p fit));
         }
 
 -- The rows of a book whose head passed.
@@ -157,14 +152,14 @@ pub whole-words : (ws : List ℕ) (f : ℕ) (rs : List Row) → readWords ws ≡
 unfolding readWords
 whole-words ws f rs e =
     let h = head-fits ws (or-tests (headTests ws) (bookRows ws) e) in
-    let t = taken 257 (value (word ws 0)) (value (word ws 1)) [] 2 (drop 2 ws) f rs (h .pace .least) refl (or-contents (headTests ws) (bookRows ws) e) in
+    let t = taken 257 (value (word ws 0)) (value (word ws 1)) [] 2 (drop 2 ws) f rs refl (or-contents (headTests ws) (bookRows ws) e) in
     record {
       head = h;
       free = t .same-free;
       few = t .few;
       some = t .some;
       words = omega (arith, t .words, h .pace .there, length-drop 2 ws);
-      ranged = t .ranged (λ i l. let x : ⊥ = omega arith in absurd x);
+      ranged = t .ranged (h .pace .least, h .pace .most) (λ i l. let x : ⊥ = omega arith in absurd x);
     }
 
 -- An accepted book passed them, and its rows are in order.

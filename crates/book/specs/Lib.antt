@@ -7,3 +7,4 @@ pub mod Book
 pub mod Disorder
 pub mod Accepted
 pub mod OneClass
+pub mod NearestMinute

@@ -1,6 +1,6 @@
 -- The rows of a book: the words of a row, the tests 4 to 7, the length of a row, and the rows read one after another up to the end word.
 -- Rests on: Words, Due. As there, `ws` is the book from `place` on.
-use Prim.Native.Nat.{ℕ, zero, suc, _+_, _-_, _*_, _/_}
+use Prim.Native.Nat.{ℕ, zero, suc, _+_, _*_, _/_}
 use mathlib.Core.Bool.{Bool, true, false, not, _&&_, _||_}
 use mathlib.Core.List.{List, [], _∷_, _++_, map}
 use lib.Dec.{leb, ltb, eqb}
@@ -51,9 +51,10 @@ rowTests numbers place ws =
     wordTests 5 1 2000 place ws 2 then
     dueTests place ws
 
--- Length: pages × 60 divided by pace, rounded up.
+-- Length: the reading time, pages × 60 divided by pace, to the nearest minute, an exact half going up: half a minute is added, and what is left
+-- over a whole minute dropped. NearestMinute says what that gives.
 abbrev pub lengthOf : (pages pace : ℕ) → ℕ
-lengthOf pages pace = (pages * 60 + (pace - 1)) / pace
+lengthOf pages pace = (2 * (pages * 60) + pace) / (2 * pace)
 
 -- A row of the table: number, release, length, due, and the class or that it has none.
 abbrev pub rowOf : (pace : ℕ) → List ℕ → Row

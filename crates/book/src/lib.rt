@@ -240,12 +240,12 @@ fn row_tests(numbers: &[u32; Desk::ROWS], count: usize, place: usize, rest: &[u3
     then(number, then(release, then(pages, due)))
 }
 
-// Length: pages × 60 divided by pace, rounded up.
+// Length: pages × 60 divided by pace, to the nearest minute, an exact half going up.
 fn length_of(pages: u32, pace: u32) -> u32
     requires { ⌜ (pages ≤ 2000) × (4 ≤ pace) × (pace ≤ 120) ⌝ }
     ensures { λ r. ⌜ r ≡ lengthOf pages pace ⌝ }
 {
-    (pages * 60 + (pace - 1)) / pace
+    (2 * (pages * 60) + pace) / (2 * pace)
 }
 
 // The margin of a class.

@@ -1,5 +1,5 @@
 // Runs days through the offered calls and prints what comes out, for the stored output to be held against: worked days, every refusal at every
-// place where it can come, buffers of every length, ties, early work, rows as they arrive, and books with many plans.
+// place where it can come, buffers of every length, ties, early work, rows as they arrive, reading times between whole minutes, and books with many plans.
 
 mod calls;
 mod make;
@@ -23,5 +23,6 @@ fn main() {
     plans::ties();
     plans::arriving();
     plans::classes();
+    plans::nearest();
     plans::many();
 }

@@ -238,6 +238,28 @@ pub fn classes() {
     say::line();
 }
 
+// Reading times between whole minutes: one row at a pace, exact halves first; classes; and the two rows at another pace, where plans, equal spares and
+// disagreement are those of the lengths.
+pub fn nearest() {
+    whole(b"1/2 minute", 0, 120, &[0, 1, 0]);
+    whole(b"1 1/2 minutes", 0, 120, &[0, 3, 0]);
+    whole(b"7 1/2 minutes", 0, 64, &[0, 8, 0]);
+    whole(b"14992 1/2 minutes", 0, 8, &[0, 1_999, 0]);
+    whole(b"60/119 minute", 0, 119, &[0, 1, 0]);
+    whole(b"59 59/119 minutes", 0, 119, &[0, 118, 0]);
+    whole(b"10 1/2 minutes of class 0", 0, 40, &[10, 7, CLASS]);
+    whole(b"1 1/5 minutes of class 0", 0, 50, &[10, 1, CLASS]);
+    whole(
+        b"halves of one class",
+        0,
+        40,
+        &[1, 1, CLASS + 1, 0, 7, CLASS + 1],
+    );
+    whole(b"two rows at 50", 0, 50, &[1, 1, 5, 0, 8, 12]);
+    whole(b"equal spares at 50", 0, 50, &[1, 1, 5, 0, 8, 13]);
+    whole(b"rows that disagree at 50", 0, 50, &[1, 1, 5, 0, 8, 14]);
+}
+
 // Books with as many plans as rows.
 pub fn many() {
     let mut book = [0u32; ROOM];

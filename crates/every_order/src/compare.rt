@@ -15,6 +15,8 @@ pub struct Tally {
     pub books: u32,
     pub plans: [u32; 9],
     pub classes: u32,
+    pub halves: u32,
+    pub dropped: u32,
     pub unsorted: u32,
     pub ties: u32,
     pub idle: u32,
@@ -34,6 +36,8 @@ impl Tally {
             books: 0,
             plans: [0; 9],
             classes: 0,
+            halves: 0,
+            dropped: 0,
             unsorted: 0,
             ties: 0,
             idle: 0,
@@ -136,6 +140,12 @@ fn counted(t: Tally, day: Day, front: Front, tried: u32) -> Tally {
     let class = day.class;
     if class[0] < day::NO_CLASS {
         u.classes = more(u.classes);
+    }
+    if day.half {
+        u.halves = more(u.halves);
+    }
+    if day.dropped {
+        u.dropped = more(u.dropped);
     }
     if is_unsorted(day) {
         u.unsorted = more(u.unsorted);

@@ -6,11 +6,14 @@ ghost use lib.ListN.{length};
 // Stands for no class.
 pub const NO_CLASS: u32 = 8;
 
-// Rows by release, pages, length, due and class.
+// Rows by release, pages, length, due and class. Whether some reading time is an exact half over whole minutes, and whether some length drops less than a
+// half.
 pub struct Day {
     pub free: u32,
     pub pace: u32,
     pub count: usize,
+    pub half: bool,
+    pub dropped: bool,
     pub release: [u32; 8],
     pub pages: [u32; 8],
     pub length: [u32; 8],
@@ -26,6 +29,7 @@ pub fn next(s: u32) -> u32
     wide as u32
 }
 
+// Paces at which reading times end at whole minutes, at halves, and between.
 fn pace_of(s: u32) -> u32
     ensures { λ r. ⌜ (40 ≤ r) × (r ≤ 120) ⌝ }
 {
@@ -33,6 +37,7 @@ fn pace_of(s: u32) -> u32
         0 => 120,
         1 => 40,
         2 => 50,
+        3 => 70,
         _ => 60,
     }
 }
@@ -147,10 +152,27 @@ fn free_of(shape: u32, s: u32) -> u32 {
     (s / 64) % 12
 }
 
+// Twice what the reading time has over whole minutes, in parts of which a minute has `pace`.
+fn twice_over(pages: u32, pace: u32) -> u32
+    requires { ⌜ (pages ≤ 200) × (40 ≤ pace) × (pace ≤ 120) ⌝ }
+{
+    pages * 120 % (2 * pace)
+}
+
+// Length: the whole minutes of the reading time, and one more where it is half a minute or more over them.
 fn length_of(pages: u32, pace: u32) -> u32
     requires { ⌜ (pages ≤ 200) × (40 ≤ pace) × (pace ≤ 120) ⌝ }
 {
-    (pages * 60 + (pace - 1)) / pace
+    let whole = pages * 60 / pace;
+    if twice_over(pages, pace) < pace {
+        return whole;
+    }
+    std::num::wrapping_add_u32(whole, 1)
+}
+
+// Less than half a minute, which the length drops.
+fn is_dropped(over: u32, pace: u32) -> bool {
+    0 < over && over < pace
 }
 
 // A day without rows.
@@ -159,6 +181,8 @@ fn bare(free: u32, pace: u32, count: usize) -> Day {
         free: free,
         pace: pace,
         count: count,
+        half: false,
+        dropped: false,
         release: [0; 8],
         pages: [0; 8],
         length: [0; 8],
@@ -181,6 +205,7 @@ pub fn made(n: u32) -> Day {
     while i < count {
         s = next(next(s));
         let pages = pages_of(shape, i, count, s, ready);
+        let over = twice_over(pages, pace);
         let length = length_of(pages, pace);
         let step = step_of(shape, i as u32, next(s));
         let end = later(std::num::wrapping_add_u32(ready, step), length);
@@ -192,6 +217,8 @@ pub fn made(n: u32) -> Day {
         day.length[i] = length;
         day.due[i] = due;
         day.class[i] = class;
+        day.half = day.half | (over == pace);
+        day.dropped = day.dropped | is_dropped(over, pace);
         i += 1;
     }
     day

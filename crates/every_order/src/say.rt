@@ -56,6 +56,8 @@ pub fn tally(t: Tally) {
     let counts = t.plans;
     plans(counts);
     line(b"books of one class ", t.classes);
+    line(b"books with an exact half over whole minutes ", t.halves);
+    line(b"books with less than a half dropped ", t.dropped);
     line(b"books with a due below the one above ", t.unsorted);
     line(b"books with equal dues ", t.ties);
     line(b"books with idle time in plan 1 ", t.idle);

@@ -28,6 +28,7 @@ use Rattle.book.specs.declared.Tested.the-variants as tested
 use Rattle.book.specs.Rows.{accepted}
 use Rattle.book.specs.Book.{readBook}
 use Rattle.book.specs.Accepted.{AcceptedBook}
+use Rattle.book.proofs.NearestMinute.{nearest-minute}
 use Rattle.book.proofs.Accepted.{accepted-book, accepted-ranged}
 use Rattle.book.proofs.Disorder.{disorder}
 use Rattle.book.proofs.OneClass.{one-class}
@@ -57,7 +58,12 @@ module _ {free : ℕ} {rows : List Row} (a : AcceptedBook free rows) where
 
 -- Property 2.
 pub definitions-hold : Property2
-definitions-hold = record { book-accepted = λ book free rows reads. in-limits (accepted-book book free rows reads); disorder = disorder; one-class = one-class }
+definitions-hold = record {
+  book-accepted = λ book free rows reads. in-limits (accepted-book book free rows reads);
+  nearest-minute = nearest-minute;
+  disorder = disorder;
+  one-class = one-class;
+}
 
 module _ (book : List ℕ) (free : ℕ) (rows : List Row) (reads : readBook book ≡ accepted free rows) where
   a : AcceptedBook free rows

@@ -1,4 +1,4 @@
--- The days worked through, M1 to M13, days with classes and days with rows as they arrive: a table of questions and expected answers, and the theorem that every entry holds of the definitions.
+-- The days worked through, M1 to M13, days with classes, with rows as they arrive and with reading times between whole minutes: a table of questions and expected answers, and the theorem that every entry holds of the definitions.
 -- Rests on: Calls, Lines, the book.
 use Prim.Native.Nat.{ℕ, _+_, _*_}
 use mathlib.Core.Path.{_≡_, refl, sym, ap, _∙_}
@@ -82,6 +82,13 @@ classAndDue = book 0 60 (sold 901 1 1 0 ∷ entry 902 0 10 70 ∷ [])
 abbrev pub classRows : ℕ → List ℕ
 classRows pages = book 0 60 (sold 901 3 2 1 ∷ sold 902 0 pages 1 ∷ [])
 
+-- M1's book at pace 50: reading times of 1.2 and 9.6 minutes, the same lengths. One row of class 0, so many pages at a pace.
+abbrev pub nearestRows : ℕ → List ℕ
+nearestRows due = book 0 50 (entry 901 1 1 5 ∷ entry 902 0 8 due ∷ [])
+
+abbrev pub soldRow : (pages pace : ℕ) → List ℕ
+soldRow pages pace = book 0 pace (sold 901 10 pages 0 ∷ [])
+
 -- A row in which another word stands in the place of the due word.
 abbrev pub otherWord : ℕ → ℕ → List ℕ
 otherWord k v = wordOf 1 0 ∷ wordOf 2 60 ∷ wordOf 3 901 ∷ wordOf 4 10 ∷ wordOf 5 5 ∷ wordOf k v ∷ wordOf 7 1 ∷ []
@@ -128,9 +135,12 @@ abbrev pub _gets_ : Asked → Told → Day
 a gets b = record { asked = a; told = b }
 
 infix 10 _gets_
--- How answers are written in the table: a book of one row, of class c; plans with the buffer; an order's end and lateness with the buffer; a refusal with the buffer; a line.
+-- How answers are written in the table: a book of one row with its length, due and class, or of length 5; plans with the buffer; an order's end and lateness with the buffer; a refusal with the buffer; a line.
+abbrev pub lasts : (length due class : ℕ) → Told
+lasts n d c = reads (accepted 0 (record { number = 901; release = 10; length = n; due = d; class = Of c } ∷ []))
+
 abbrev pub due : ℕ → ℕ → Told
-due d c = reads (accepted 0 (record { number = 901; release = 10; length = 5; due = d; class = Of c } ∷ []))
+due d c = lasts 5 d c
 
 abbrev pub plans : ℕ → List ℕ → Told
 plans k b = lists (gives (listed.Plans k) b)
@@ -171,9 +181,9 @@ days =
     -- M10: two equal rows; early work has a negative lateness, in two's complement.
     (plan equalRows 1 (0 ∷ 0 ∷ []) gets order 4 (negsuc 0) (1 ∷ 2 ∷ [])) ∷
     (list equalRows (0 ∷ 0 ∷ 7 ∷ 7 ∷ []) gets plans 1 (4 ∷ 4294967295 ∷ 7 ∷ 7 ∷ [])) ∷
-    -- M11, M12: 7 pages at pace 40 take 11, 1 page at pace 50 takes 2.
+    -- M11, M12: 7 pages at pace 40 take 11, 1 page at pace 50 takes 1.
     (lengthOf 7 40 gets takes 11) ∷
-    (lengthOf 1 50 gets takes 2) ∷
+    (lengthOf 1 50 gets takes 1) ∷
     -- M13: four rows, two plans.
     (list fourRows (0 ∷ 0 ∷ 0 ∷ 0 ∷ 0 ∷ 0 ∷ 0 ∷ 0 ∷ []) gets plans 2 (121 ∷ 17 ∷ 122 ∷ 0 ∷ 0 ∷ 0 ∷ 0 ∷ 0 ∷ [])) ∷
     (plan fourRows 1 (0 ∷ 0 ∷ 0 ∷ 0 ∷ []) gets order 121 (pos 17) (2 ∷ 1 ∷ 4 ∷ 3 ∷ [])) ∷
@@ -214,6 +224,22 @@ days =
     (plan (tiedRows 4 3 0 6) 1 (0 ∷ 0 ∷ []) gets order 19 (negsuc 10) (2 ∷ 1 ∷ [])) ∷
     (plan (tiedRows 2 4 0 6) 1 (0 ∷ 0 ∷ []) gets order 20 (negsuc 9) (1 ∷ 2 ∷ [])) ∷
     (plan (tiedRows 0 6 2 4) 1 (0 ∷ 0 ∷ []) gets order 20 (negsuc 9) (1 ∷ 2 ∷ [])) ∷
+    -- The nearest minute: exact halves, the least of them (1/2), 1 1/2 and the greatest (14,992 1/2); what lies nearest to a half, above it (60/119)
+    -- and below it (59 59/119); the greatest length.
+    (lengthOf 1 120 gets takes 1) ∷
+    (lengthOf 3 120 gets takes 2) ∷
+    (lengthOf 1999 8 gets takes 14993) ∷
+    (lengthOf 1 119 gets takes 1) ∷
+    (lengthOf 118 119 gets takes 59) ∷
+    (lengthOf 2000 4 gets takes 30000) ∷
+    -- A class due follows the length: 10 1/2, 1 1/5 and 1/2 minutes, after release 10 and with a margin of 60.
+    (reading (soldRow 7 40) gets lasts 11 81 0) ∷
+    (reading (soldRow 1 50) gets lasts 1 71 0) ∷
+    (reading (soldRow 1 120) gets lasts 1 71 0) ∷
+    -- So do spares and plans: M1, M7 and M8 at pace 50.
+    (printing (nearestRows 12) gets prints (listing 2 (line 11 (pos 6) (902 ∷ 901 ∷ []) ∷ line 12 (pos 0) (901 ∷ 902 ∷ []) ∷ []))) ∷
+    (list (nearestRows 13) (0 ∷ 0 ∷ 0 ∷ 0 ∷ []) gets plans 2 (11 ∷ 6 ∷ 12 ∷ 4294967295 ∷ [])) ∷
+    (reading (nearestRows 14) gets reads (refused 8 6)) ∷
     []
 
 -- Two functions that give one list over a list agree at each of its elements.

@@ -23,6 +23,7 @@ use Rattle.book.specs.declared.Found.the-variants as found
 use Rattle.book.specs.Due.{ClassDue}
 use Rattle.book.specs.Rows.{accepted}
 use Rattle.book.specs.Book.{readBook, rowPlace, rowWords}
+use Rattle.book.specs.NearestMinute.{NearestMinute}
 use Rattle.book.specs.Disorder.{Disorder}
 use Rattle.book.specs.OneClass.{OneClass}
 use Rattle.planner.specs.declared.Listed.the-variants as listed
@@ -47,7 +48,8 @@ pub record LentMemoryOfCalls (book : List ℕ) : Type 0 where
   pub row : (k n p : ℕ) → rowPlace book k ≡ found.Refused n p → (1 ≤ n) × (n ≤ 12) × (rowWords book k ≡ [])
 
 -- 2. The definitions: what the contracts cite. Of an accepted book, the greatest and least ends and latenesses, and the dues of its classes;
--- that a book which passes tests 1 to 7 is refused 8 exactly if two rows disagree, and where; and that a book of one class never is.
+-- that a length is the reading time to the nearest minute, between 1 and 30,000; that a book which passes tests 1 to 7 is refused 8 exactly if
+-- two rows disagree, and where; and that a book of one class never is.
 pub record BookAccepted (free : ℕ) (rows : List Row) : Type 0 where
   pub few-rows : (1 ≤ length rows) × (length rows ≤ 256)
   pub ranges : (order : List ℕ) → OrderOf (allRows rows) order →
@@ -56,6 +58,7 @@ pub record BookAccepted (free : ℕ) (rows : List Row) : Type 0 where
 
 pub record DefinitionsHold : Type 0 where
   pub book-accepted : (book : List ℕ) (free : ℕ) (rows : List Row) → readBook book ≡ accepted free rows → BookAccepted free rows
+  pub nearest-minute : NearestMinute
   pub disorder : Disorder
   pub one-class : OneClass
 

@@ -83,7 +83,7 @@ returns-2 c =
 order-tests-requires : tie.Need-order-tests-requires
 order-tests-requires c κs =
     let r = c .before .before .before in
-    rw (rows r) (rows-few (value (word (now (r .before .before .before .before .before .before .before .before .before .args .book)) 0)) (value (word (now (r .before .before .before .before .before .before .before .before .before .args .book)) 1)) (drop 2 (now (r .before .before .before .before .before .before .before .before .before .args .book))) (fits (r .before .before .before .before .before) .pace .least))
+    rw (rows r) (rows-few (value (word (now (r .before .before .before .before .before .before .before .before .before .args .book)) 0)) (value (word (now (r .before .before .before .before .before .before .before .before .before .args .book)) 1)) (drop 2 (now (r .before .before .before .before .before .before .before .before .before .args .book))))
 
 settled-requires : tie.Need-settled-requires
 settled-requires c κs = search needs

@@ -7,7 +7,7 @@ use borrow.Author.Needs.{needs}
 use Rattle.book.specs.Words.{value, word}
 use Rattle.book.specs.Due.{classOf, Margined}
 use Rattle.book.specs.Rows.{lengthOf}
-use Rattle.book.proofs.Whole.{length-most}
+use Rattle.book.proofs.NearestMinute.{length-most}
 use Rattle.book.proofs.row_of.Statement.{statement}
 use Rattle.book.proofs.row_of.Tie as tie
 

@@ -56,6 +56,9 @@ next-requires-4 c κs = search needs
 pages-of-requires : tie.Need-pages-of-requires Inv-loop μ-loop
 pages-of-requires c κs = search needs
 
+twice-over-requires : tie.Need-twice-over-requires Inv-loop μ-loop
+twice-over-requires c κs = search needs
+
 length-of-requires : tie.Need-length-of-requires Inv-loop μ-loop
 length-of-requires c κs = search needs
 
@@ -116,6 +119,9 @@ mul-day-5 c = search needs
 element-write-day-5 : tie.Need-element-write-day-5 Inv-loop μ-loop
 element-write-day-5 c = search needs
 
+is-dropped-requires : tie.Need-is-dropped-requires Inv-loop μ-loop
+is-dropped-requires c κs = search needs
+
 add-i : tie.Need-add-i Inv-loop μ-loop
 add-i c = search needs
 
@@ -149,6 +155,7 @@ made-spec =
     next-requires-3
     next-requires-4
     pages-of-requires
+    twice-over-requires
     length-of-requires
     cast-step-of
     next-requires-5
@@ -169,6 +176,7 @@ made-spec =
     element-write-day-4
     mul-day-5
     element-write-day-5
+    is-dropped-requires
     add-i
     loop-less
     loop-again
