@@ -23,8 +23,9 @@
  *     7     end                        the count of rows
  *
  * in the sequence 1, 2, then 1 to 256 rows of 3, 4, 5 and either 6 or 0, then
- * 7, and nothing after it. Times are whole minutes. A row's length is
- * pages * 60 / pace, rounded up. A row with a class word is due at release +
+ * 7, and nothing after it. Times are whole minutes. A row's length is its
+ * reading time, pages * 60 / pace, to the nearest minute, an exact half going
+ * up; it lies between 1 and 30,000. A row with a class word is due at release +
  * length + margin, with the margin of its class:
  *
  *     class    0    1    2      3      4       5       6       7
@@ -63,7 +64,7 @@
 #include <stddef.h>
 #include <stdint.h>
 
-#define JELVAKSNA_VERSION "1.2"
+#define JELVAKSNA_VERSION "1.3"
 
 /* The refusals, and the place that comes with each. */
 #define JELVAKSNA_CUT 1          /* the book stops where a word is due: its length */

@@ -1,6 +1,6 @@
 /* A day of two transcripts: its plans, an order, a verdict and a row's words;
- * then the same day with a class for each row in place of its due, and with the
- * rows in the other sequence.
+ * then the same day with a class for each row in place of its due, with the rows
+ * in the other sequence, and at another pace.
  *
  *     cc -std=c11 -Iinclude host/c/example.c target/staticlib/libjelvaksna.a
  */
@@ -110,6 +110,16 @@ int main(void) {
     turned[5] = JELVAKSNA_WORD(6, 14);
     answer = jelvaksna_list(turned, words, list, JELVAKSNA_MAX_LIST_WORDS);
     EXPECT(answer.refusal == JELVAKSNA_DISORDER && answer.place == 6);
+
+    /* At 50 pages an hour 1 page takes 1.2 minutes and 8 pages 9.6: lengths of 1 and 10, as before. */
+    uint32_t slower[sizeof book / sizeof *book];
+    memcpy(slower, book, sizeof book);
+    slower[1] = JELVAKSNA_WORD(2, 50);
+    slower[8] = JELVAKSNA_WORD(5, 8);
+    answer = jelvaksna_order_for_bound(slower, words, 5, order, 2);
+    EXPECT(answer.refusal == 0 && answer.end == 12 && answer.late == 0 && order[0] == 1 && order[1] == 2);
+    printf("8 pages at pace 50, at most 5 late: end %" PRIu32 ", rows", answer.end);
+    print_order(order, 2);
 
     /* A book that stops, and an empty one. */
     answer = jelvaksna_list(book, words - 1, list, JELVAKSNA_MAX_LIST_WORDS);

@@ -363,7 +363,7 @@ pub fn some_rows(rng: &mut Rng, most: usize) -> usize {
 fn mixed(rng: &mut Rng, rows: usize) -> Draft {
     let pace = match rng.below(4) {
         0 => rng.range(4, 120),
-        _ => rng.pick(&[4, 7, 30, 40, 50, 60, 60, 60, 61, 119, 120]),
+        _ => rng.pick(&[4, 7, 16, 30, 40, 50, 60, 60, 60, 61, 119, 120]),
     };
     let most_pages = rng.pick(&[1, 2, 5, 12, 12, 40, 200]);
     let long_one_in = rng.pick(&[2, 3, 5, 10, 50]);
@@ -458,7 +458,7 @@ pub fn ties(rng: &mut Rng, rows: usize) -> Draft {
 /// One long row and short ones whose gaps grow by chance, so that there are often several plans. In
 /// one day of two some of the short ones share release and due, so that second picks tie.
 pub fn several_plans(rng: &mut Rng, rows: usize) -> Draft {
-    let pace = rng.pick(&[4, 10, 20, 60]);
+    let pace = rng.pick(&[4, 8, 10, 20, 40, 60]);
     let short = length(1, pace);
     let spare = rng.range(-40, 200);
     let shared = rng.one_in(2);
@@ -732,6 +732,14 @@ pub fn damage(rng: &mut Rng, book: &mut Vec<u32>, way: u32) {
         }
         _ => book[at] = rng.next() as u32,
     }
+}
+
+/// Whether some row of an accepted book has a reading time of an exact half over whole minutes.
+pub fn has_half(book: &[u32]) -> bool {
+    let pace = book[1] & TOP;
+    let rows = book[2..book.len() - 1].chunks_exact(4);
+    rows.map(|row| row[2] & TOP)
+        .any(|pages| 2 * (pages * 60 % pace) == pace)
 }
 
 /// Words by chance: all of them, or only the values in a sequence of the right kinds.

@@ -1,7 +1,7 @@
 //! The planner's calls for Rust, and what they are tested with.
 //!
 //! - [`linked`]: the declarations of the archive and a safe wrapper over them (feature `archive`).
-//! - [`model`]: a second implementation of document 01 with requests L1 and L2, from these alone.
+//! - [`model`]: a second implementation of document 01 with requests L1 to L3, from these alone.
 //! - [`books`]: a seeded maker of books, sound and damaged.
 
 pub mod books;
@@ -10,7 +10,7 @@ pub mod linked;
 pub mod model;
 
 /// The version of the boundary, as in `include/jelvaksna.h`.
-pub const VERSION: &str = "1.2";
+pub const VERSION: &str = "1.3";
 
 /// The numbers of the refusals.
 pub mod refusal {

@@ -1,5 +1,6 @@
-//! A second opinion: document 01 with the classes of request L1 and the rows as they arrive of
-//! request L2 as a plain program, written from these papers and from nothing else.
+//! A second opinion: document 01 with the classes of request L1, the rows as they arrive of
+//! request L2 and the nearest minute of request L3 as a plain program, written from these papers
+//! and from nothing else.
 //!
 //! It keeps their sequence of tests and their words (desk, picks, run, blocks), calculates in
 //! 64 bits, and looks for nothing faster than plain scans.
@@ -164,10 +165,11 @@ impl Day {
     }
 }
 
-/// Pages times 60 divided by pace, rounded up.
+/// The reading time, pages times 60 divided by pace, to the nearest minute, an exact half going up.
 pub fn length(pages: i64, pace: i64) -> i64 {
     let whole = pages * 60 / pace;
-    if pages * 60 % pace == 0 {
+    let over = pages * 60 % pace;
+    if 2 * over < pace {
         whole
     } else {
         whole + 1

@@ -283,7 +283,7 @@ fn worked_days() {
         Draft::of(7, 60, &[(1, 3, 4, 10)]),
         Draft::of(0, 60, &[(1, 0, 2, 5), (2, 0, 2, 5)]),
         Draft::of(0, 40, &[(1, 0, 7, 11)]),
-        Draft::of(0, 50, &[(1, 0, 1, 2)]),
+        Draft::of(0, 50, &[(1, 0, 1, 1)]),
         Draft::of(0, 60, &four),
         Draft::of(0, 60, &[]),
         Draft::of(0, 60, &two).of_class(0),
@@ -296,6 +296,11 @@ fn worked_days() {
         Draft::of(10, 60, &[(1, 0, 10, 50), (2, 5, 2, 50)]),
         Draft::of(10, 60, &[(1, 0, 10, 50), (2, 5, 5, 50)]),
         Draft::of(0, 60, &[(1, 0, 10, 14), (2, 1, 3, 9), (3, 1, 1, 9)]),
+        // Reading times between whole minutes: the two rows at another pace, and exact halves.
+        Draft::of(0, 50, &[two[0], (902, 0, 8, 12)]),
+        Draft::of(0, 50, &[two[0], (902, 0, 8, 13)]),
+        Draft::of(0, 50, &[two[0], (902, 0, 8, 14)]),
+        Draft::of(0, 40, &[(1, 1, 1, 0), (2, 0, 7, 0)]).of_class(1),
     ];
     for (i, draft) in days.iter().enumerate() {
         let case = Case::new("worked days", i as u64);
@@ -312,6 +317,23 @@ fn worked_days() {
             compare(case, &book, &day, &Call::Verdict { posting });
         }
     }
+}
+
+/// Every length that a book can have, as the end of its only row, and in the due of a class.
+#[test]
+fn every_length() {
+    let mut rows = 0;
+    for pace in 4..=120 {
+        for pages in 1..=2_000 {
+            let case = Case::new("every length", rows);
+            let day = Draft::of(0, pace, &[(1, 5, pages, 7)]);
+            for book in [day.words(), day.of_class(0).words()] {
+                compare(case, &book, &Day::read(&book), &Call::List { len: 2 });
+            }
+            rows += 1;
+        }
+    }
+    println!("every length: {rows} rows, each with a due and with a class");
 }
 
 /// The latest end and lateness that a book can have, and the earliest work.

@@ -1,6 +1,6 @@
-//! The model against the days of document 01, the classes of request L1 and the rows as they arrive
-//! of request L2, against trying every order, and the book maker against what it promises. Needs no
-//! archive.
+//! The model against the days of document 01, the classes of request L1, the rows as they arrive of
+//! request L2 and the nearest minute of request L3, against trying every order, and the book maker
+//! against what it promises. Needs no archive.
 
 use jelvaksna::books::{self, Draft, DraftRow, Rng};
 use jelvaksna::model::{self, Day, Row};
@@ -121,11 +121,28 @@ fn m9_to_m12_single_rows_and_ties() {
     assert_eq!(m10.list(), [pair(4, -1)]);
     assert_eq!(m10.order_of_plan(1).1, [1, 2]);
     assert_eq!(model::length(7, 40), 11);
-    assert_eq!(model::length(1, 50), 2);
-    assert_eq!(
-        (model::length(1, 120), model::length(2_000, 4)),
-        (1, 30_000)
-    );
+    assert_eq!(model::length(1, 50), 1);
+}
+
+/// Every length that a book can have, held to what nearest means: no other minute is nearer to the
+/// reading time, and none as near is later.
+#[test]
+fn lengths_are_the_nearest_minutes() {
+    let (mut halves, mut least, mut most) = (0, i64::MAX, 0);
+    for pace in 4..=120 {
+        for pages in 1..=2_000 {
+            let length = model::length(pages, pace);
+            let apart = |minutes: i64| (minutes * pace - pages * 60).abs();
+            let context = format!("{pages} pages at pace {pace}: {length}");
+            assert!(apart(length) <= apart(length - 1), "{context}");
+            assert!(apart(length) < apart(length + 1), "{context}");
+            halves += u64::from(apart(length) == apart(length - 1));
+            (least, most) = (least.min(length), most.max(length));
+        }
+    }
+    println!("lengths: {halves} exact halves, from {least} to {most}");
+    assert_eq!((least, most), (1, 30_000));
+    assert!(halves > 1_000);
 }
 
 #[test]
@@ -374,13 +391,15 @@ fn each_class_has_its_margin() {
             .rows[0];
         assert_eq!((row.due, row.class), (111 + margin, None));
     }
-    // The length is rounded up before the margin is added: 7 pages at pace 40, and the latest due.
+    // The margin is added to the rounded length: of 10 1/2, 1 1/5 and 1/2 minutes, and the latest due.
     let of = |pace: u32, release: u32, pages: u32, class: u32| {
         let mut book = book_of(&[(release, pages, word(0, class))]);
         book[1] = word(2, pace);
         Day::read(&book).unwrap().rows[0].due
     };
     assert_eq!(of(40, 0, 7, 0), 71);
+    assert_eq!(of(50, 0, 1, 0), 61);
+    assert_eq!(of(120, 0, 1, 0), 61);
     assert_eq!(of(4, 10_000_000, 2_000, 7), 10_073_200);
 }
 

@@ -1,5 +1,6 @@
 //! A million inputs on the path that `slate` takes: bytes to words, then the archive's list and a
-//! row, and for a good part of the accepted ones all that `slate` would print.
+//! row, and for a good part of the accepted ones all that `slate` would print. Then `slate` itself,
+//! and `scribe` on the days of examples/.
 
 mod common;
 
@@ -64,7 +65,7 @@ fn look(case: Case, rng: &mut Rng, input: &[u8], tally: &mut Tally) {
     };
     let day = Day::read(&words);
     match &day {
-        Ok(day) => tally.accepted.count(day),
+        Ok(day) => tally.accepted.count(&words, day),
         Err(no) => tally.refused[no.number as usize] += 1,
     }
     compare(case, &words, &day, &Call::List { len: 2 * MAX_ROWS });
@@ -193,15 +194,36 @@ fn long_inputs() {
     });
 }
 
+/// The repository.
+const TOP: &str = concat!(env!("CARGO_MANIFEST_DIR"), "/..");
+
+/// What a proved program writes to standard output.
+fn run(name: &str, input: &[u8]) -> Vec<u8> {
+    let program = format!("{TOP}/target/bin/{name}");
+    assert!(
+        std::path::Path::new(&program).exists(),
+        "target/bin/{name} is missing: run 'rt check {name}' first"
+    );
+    let mut child = Command::new(program)
+        .stdin(Stdio::piped())
+        .stdout(Stdio::piped())
+        .spawn()
+        .expect("the program starts");
+    let mut stdin = child.stdin.take().unwrap();
+    let sent = input.to_vec();
+    // The program may stop reading before the end: that is no fault.
+    let feed = std::thread::spawn(move || {
+        let _ = std::io::Write::write_all(&mut stdin, &sent);
+    });
+    let output = child.wait_with_output().expect("the program ends");
+    feed.join().unwrap();
+    output.stdout
+}
+
 /// The proved program itself on some hundred inputs.
 #[test]
 fn the_program() {
     let test = "slate";
-    let program = concat!(env!("CARGO_MANIFEST_DIR"), "/../target/bin/slate");
-    assert!(
-        std::path::Path::new(program).exists(),
-        "target/bin/slate is missing: run 'rt check slate' first"
-    );
     let count = 400 * books::times();
     let mut accepted = Accepted::default();
     for i in 0..count {
@@ -216,26 +238,13 @@ fn the_program() {
             book = books::damaged(&mut rng, &book);
         }
         if let Ok(day) = Day::read(&book) {
-            accepted.count(&day);
+            accepted.count(&book, &day);
         }
         let mut input = bytes(&mut rng, &book);
         if rng.one_in(20) {
             input.extend(vec![0; rng.below(9_000)]);
         }
-        let mut child = Command::new(program)
-            .stdin(Stdio::piped())
-            .stdout(Stdio::piped())
-            .spawn()
-            .expect("slate starts");
-        let mut stdin = child.stdin.take().unwrap();
-        let sent = input.clone();
-        // The program may stop reading before the end: that is no fault.
-        let feed = std::thread::spawn(move || {
-            let _ = std::io::Write::write_all(&mut stdin, &sent);
-        });
-        let output = child.wait_with_output().expect("slate ends");
-        feed.join().unwrap();
-        let have = String::from_utf8_lossy(&output.stdout).into_owned();
+        let have = String::from_utf8_lossy(&run(test, &input)).into_owned();
         let want = model::slate(&input);
         if want != have {
             let what = format!("{} bytes, model:\n{want}slate:\n{have}", input.len());
@@ -244,4 +253,22 @@ fn the_program() {
     }
     println!("{test}: {count} inputs to target/bin/slate, {accepted}");
     assert!(accepted.classed > count / 10 && accepted.unsorted > count / 10);
+}
+
+/// The days of examples/: `scribe` makes the books that stand beside them, and `slate` lists plans.
+#[test]
+fn the_examples() {
+    let mut days = 0;
+    for entry in std::fs::read_dir(format!("{TOP}/examples")).unwrap() {
+        let path = entry.unwrap().path();
+        if path.extension().is_some_and(|ending| ending == "day") {
+            let book = std::fs::read(path.with_extension("book")).expect("a book beside the day");
+            assert_eq!(run("scribe", &std::fs::read(&path).unwrap()), book);
+            let have = String::from_utf8(run("slate", &book)).unwrap();
+            assert_eq!(have, model::slate(&book));
+            assert!(have.starts_with("rows "), "{path:?}: {have}");
+            days += 1;
+        }
+    }
+    assert!(days > 2);
 }

@@ -216,20 +216,25 @@ pub struct Accepted {
     /// Of more than one row.
     several: u64,
     pub classed: u64,
+    /// With a reading time of an exact half over whole minutes.
+    halves: u64,
     pub unsorted: u64,
 }
 
 impl Accepted {
-    pub fn count(&mut self, day: &Day) {
+    pub fn count(&mut self, book: &[u32], day: &Day) {
         self.books += 1;
         self.several += u64::from(day.rows.len() > 1);
         self.classed += u64::from(day.has_classes());
+        self.halves += u64::from(books::has_half(book));
         self.unsorted += u64::from(!day.is_sorted());
     }
 
-    /// If there are more than a few, a good part has class rows, and a good part unsorted rows.
+    /// If there are more than a few, a good part has class rows, a good part unsorted rows, and some
+    /// have exact halves.
     pub fn check(&self, test: &str) {
         assert!(self.books < 20 || self.classed > self.books / 6, "{test}");
+        assert!(self.books < 200 || self.halves > self.books / 60, "{test}");
         let enough = self.several < 20 || self.unsorted > self.several / 6;
         assert!(enough, "{test}");
     }
@@ -241,9 +246,10 @@ impl std::fmt::Display for Accepted {
             books,
             several,
             classed,
+            halves,
             unsorted,
         } = self;
-        write!(f, "{books} accepted, {several} of several rows, {classed} with class rows, {unsorted} unsorted")
+        write!(f, "{books} accepted, {several} of several rows, {classed} with class rows, {halves} with exact halves, {unsorted} unsorted")
     }
 }
 
@@ -266,7 +272,7 @@ pub fn each_call(
             made += 1;
         }
         if let Ok(day) = &day {
-            accepted.count(day);
+            accepted.count(&book, day);
             plans = plans.max(day.list().len());
         }
     }
