@@ -25,8 +25,9 @@
  * in the sequence 1, 2, then 1 to 256 rows of 3, 4, 5 and either 6 or 0, then
  * 7, and nothing after it. Times are whole minutes. A row's length is its
  * reading time, pages * 60 / pace, to the nearest minute, an exact half going
- * up; it lies between 1 and 30,000. A row with a class word is due at release +
- * length + margin, with the margin of its class:
+ * up; it lies between 1 and 30,000. (Versions before 1.3 rounded up, so a list
+ * may differ from theirs.) A row with a class word is due at release + length +
+ * margin, with the margin of its class:
  *
  *     class    0    1    2      3      4       5       6       7
  *     margin  60  120  480  1,440  4,320  10,080  20,160  43,200

@@ -4,14 +4,15 @@ use Prim.Native.Nat.{ℕ, _≤_, _<_}
 use native.Mathlib.Omega.{arith}
 use mathlib.Core.Path.{_≡_, refl, sym, ap, _∙_}
 use mathlib.Core.List.{List, []}
-use lib.ListN.{length, getD}
+use lib.ListN.{length, drop, getD}
 use Rattle.schedule.specs.declared.Row.{Row}
 use Rattle.schedule.specs.Rows.{noRow}
 use Rattle.book.specs.declared.Tested.{Tested}
 use Rattle.book.specs.declared.Tested.the-variants.{Passed, Refused}
 use Rattle.book.specs.declared.Table.{Table}
 use Rattle.book.specs.declared.Reading.{Reading}
-use Rattle.book.specs.Rows.{Contents, refused, accepted, refusedOr, readRows}
+use Rattle.book.specs.Words.{value, word}
+use Rattle.book.specs.Rows.{Contents, refused, accepted, refusedOr}
 use Rattle.book.specs.Order.{orderTests}
 use Rattle.book.specs.Book.{headTests, inOrder, readWords, readBook, tableOf, tableRows, readingOf, settledOf}
 use Rattle.book.specs.Accepted.{AcceptedBook}
@@ -51,8 +52,8 @@ unfolding readingOf tableOf
 reading-few (refused m q) h = omega arith
 reading-few (accepted free rows) h = h free rows refl
 
-pub rows-few : (free pace : ℕ) (ws : List ℕ) → readingOf (readRows 257 free pace [] 2 ws) .table .count ≤ 256
-rows-few free pace ws = reading-few (readRows 257 free pace [] 2 ws) (λ f rs e. taken 257 free pace [] 2 ws f rs refl e .few)
+pub rows-few : (ws : List ℕ) → readingOf (bookRows ws) .table .count ≤ 256
+rows-few ws = reading-few (bookRows ws) (λ f rs e. taken 257 (value (word ws 0)) (value (word ws 1)) [] 2 (drop 2 ws) f rs refl e .few)
 
 -- What a caller knows of a reading that passed: the table's rows are those that the definition gives, they agree and are in range, and each is found at its place.
 pub record Given (ws : List ℕ) (t : Table) : Type 0 where

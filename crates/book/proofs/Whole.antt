@@ -43,8 +43,8 @@ pub record RowRanged (r : Row) : Type 0 where
   pub release : r .release ≤ 10000000
   pub least : 1 ≤ r .length
   pub most : r .length ≤ 30000
-  pub due : r .due ≤ 20000000
   pub class : ClassDue r
+  pub due : r .due ≤ 20000000
 
 abbrev pub AllRanged : List Row → Type 0
 AllRanged rs = (i : ℕ) → i < length rs → RowRanged (getD rs i noRow)
@@ -70,8 +70,8 @@ row-ranged numbers pace ws h f =
       release = f .release .most;
       least = length-least (value (word ws 2)) pace (f .pages .least) (h .0) (h .1);
       most = m;
-      due = f .due .most (value (word ws 1)) (lengthOf (value (word ws 2)) pace) (f .release .most) m;
       class = λ c. class-due (classOf ws) (value (word ws 1)) (lengthOf (value (word ws 2)) pace) (value (word ws 3)) c (f .due .class);
+      due = f .due .most (value (word ws 1)) (lengthOf (value (word ws 2)) pace) (f .release .most) m;
     }
 
 ranged-on : (rows : List Row) (r : Row) → AllRanged rows → RowRanged r → AllRanged (rows ++ (r ∷ []))

@@ -51,8 +51,8 @@ rowTests numbers place ws =
     wordTests 5 1 2000 place ws 2 then
     dueTests place ws
 
--- Length: the reading time, pages × 60 divided by pace, to the nearest minute, an exact half going up: half a minute is added, and what is left
--- over a whole minute dropped. NearestMinute says what that gives.
+-- Length: the reading time, pages × 60 divided by pace, to the nearest minute, an exact half going up: half a minute is added, and the part
+-- of a minute that is then over dropped. That this is the nearest minute is NearestMinute.
 abbrev pub lengthOf : (pages pace : ℕ) → ℕ
 lengthOf pages pace = (2 * (pages * 60) + pace) / (2 * pace)
 

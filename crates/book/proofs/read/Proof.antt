@@ -3,7 +3,6 @@
 use denote.Ref.{now}
 use native.Mathlib.Omega.{arith}
 use mathlib.Core.Path.{_≡_, ap, sym, _∙_}
-use lib.ListN.{drop}
 use borrow.Author.Needs.{needs}
 use Rattle.book.specs.declared.Tested.{Tested}
 use Rattle.book.specs.declared.Tested.the-variants.{Passed, Refused}
@@ -83,7 +82,7 @@ returns-2 c =
 order-tests-requires : tie.Need-order-tests-requires
 order-tests-requires c κs =
     let r = c .before .before .before in
-    rw (rows r) (rows-few (value (word (now (r .before .before .before .before .before .before .before .before .before .args .book)) 0)) (value (word (now (r .before .before .before .before .before .before .before .before .before .args .book)) 1)) (drop 2 (now (r .before .before .before .before .before .before .before .before .before .args .book))))
+    rw (rows r) (rows-few (now (r .before .before .before .before .before .before .before .before .before .args .book)))
 
 settled-requires : tie.Need-settled-requires
 settled-requires c κs = search needs
