@@ -10,7 +10,7 @@ use lib.Seq.{drop-cons, drop-length}
 use Rattle.theory.specs.Jobs.{Job, finish}
 use Rattle.schedule.specs.declared.Desk.{Desk}
 use Rattle.schedule.specs.Offset.{deskAt, deskAfter}
-use Rattle.core.specs.Columns.{Limits}
+use Rattle.schedule.specs.Columns.{Limits}
 use Rattle.core.specs.Taking.{deskThrough}
 use Rattle.core.specs.Answers.{Followed}
 use Rattle.core.proofs.Signs.{through-late, followed-end, followed-raised}

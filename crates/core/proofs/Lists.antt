@@ -29,7 +29,7 @@ use Rattle.schedule.proofs.Numbers.{length-count}
 use Rattle.core.specs.declared.Front.{Front}
 use Rattle.core.specs.declared.Planned.{Planned}
 use Rattle.core.specs.declared.Planned.the-variants.{Kept, Unkept}
-use Rattle.core.specs.Columns.{Limits}
+use Rattle.schedule.specs.Columns.{Limits}
 use Rattle.core.specs.Answers.{placeOf, putPair, plannedOf, orderOf, Paired, Listed}
 use Rattle.core.proofs.Signs.{lowered-pred, late-lowers}
 
@@ -123,7 +123,7 @@ module _ (job : ℕ → Job) (n free : ℕ) where
     plannable : Plannable job free rows
     plannable = record { agreeing = agreeing; some-row = some-row }
 
-    fits : Fits32 job free rows
+    pub fits : Fits32 job free rows
     fits =
         fits-32 10000000 0 30000 20000000 256 (omega arith) (omega arith)
         (record {

@@ -4,7 +4,7 @@ use Prim.Native.Nat.{ℕ, _+_, _-_, _≤_, _<_, max}
 use native.Mathlib.Omega.{arith}
 use mathlib.Core.Bool.{Bool, true, false, cond, _&&_}
 use mathlib.Core.Path.{_≡_, refl, sym, ap, _∙_}
-use mathlib.Core.List.{List, [], _∷_}
+use mathlib.Core.List.{List, [], _∷_, _++_}
 use lib.Dec.{T, leb, ltb, leb→le, le→leb, ltb→lt, lt→ltb}
 use lib.ListN.{length}
 use lib.IntN.{ℤ, subℕ, predℤ}
@@ -16,7 +16,7 @@ use Rattle.schedule.specs.Desk.{maxZ, worstOf, atMost, latenesses, endOf, keeps
 use Rattle.schedule.specs.Offset.{raised, lowered, deskAt, deskAfter}
 use Rattle.schedule.proofs.Words.{raised-lowered}
 use Rattle.schedule.proofs.Signed.{leZ→, →leZ, ltZ→, →ltZ, level, sub-level, pred-level}
-use Rattle.core.specs.Columns.{Limits}
+use Rattle.schedule.specs.Columns.{Limits}
 use Rattle.core.specs.Taking.{deskThrough}
 
 -- The bound one below.
@@ -86,6 +86,12 @@ module _ (job : ℕ → Job) where
   unfolding deskThrough endOf
   through-minute d [] = refl
   through-minute d (i ∷ is) = through-minute (deskAfter d (job i)) is
+
+  -- Rows after rows.
+  pub through-append : (d : Desk) (o p : List ℕ) → deskThrough job d (o ++ p) ≡ deskThrough job (deskThrough job d o) p
+  unfolding deskThrough
+  through-append d [] p = refl
+  through-append d (i ∷ is) p = through-append (deskAfter d (job i)) is p
 
   module _ (limits : Limits job) where
     -- The desk's worst lateness after an order is within a bound exactly where it was before and the order keeps the bound.

@@ -1,155 +1,173 @@
--- One step of the planner from a state: the picks, the row taken, and the run from there.
+-- The run from a desk in planning, row by row: what the loop keeps, and how it begins, goes on and ends. And the block that a row begins.
 -- Assumes nothing.
-use Prim.Native.Nat.{ℕ, _-_, _≤_, _<_}
+use Prim.Native.Nat.{ℕ, suc, _+_, _-_, _≤_, _<_}
 use native.Mathlib.Omega.{arith}
-use mathlib.Core.Bool.{Bool, true, false, _||_}
+use native.Mathlib.Numerals.{add-one}
+use mathlib.Core.Bool.{Bool, true, false}
 use mathlib.Core.Path.{_≡_, refl, sym, ap, _∙_, subst}
-use mathlib.Core.List.{List, [], _∷_, List·Memᴰ}
+use mathlib.Core.List.{List, [], _∷_, _++_, append-nil, append-assoc, List·Memᴰ}
 use mathlib.Core.Logic.{_⊎_, inl, inr}
-use lib.Dec.{leb, eqb}
-use lib.ListN.{length, set, length-set}
+use lib.ListN.{length, take, set, length-append, length-set}
+use lib.Seq.{take-set-le, take-suc-set, take-take}
 use Rattle.theory.specs.Jobs.{Job, finish}
+use Rattle.schedule.specs.declared.Desk.{Desk}
 use Rattle.schedule.specs.Rows.{without, withoutAll}
-use Rattle.schedule.specs.Picks.{firstPick, others, secondPick, decided, run}
-use Rattle.schedule.proofs.Orders.{length-without}
-use Rattle.core.specs.declared.State.{State}
-use Rattle.core.specs.Columns.{Limits, left}
-use Rattle.core.specs.Taking.{Going, After, takeRow, takeRows}
-use Rattle.core.proofs.Marked.{left-row, left-mark, left-all}
-use Rattle.core.proofs.Picks.{pick-mem, decided-is}
+use Rattle.schedule.specs.Picks.{firstPick, decided, run, block}
+use Rattle.schedule.specs.Columns.{Limits}
+use Rattle.schedule.specs.Offset.{deskAfter}
+use Rattle.picks.specs.declared.Standing.{Standing}
+use Rattle.picks.specs.Standing.{Tables, Sits, Taken}
+use Rattle.core.specs.Taking.{deskThrough, Stuck, Moved, Ran}
+use Rattle.core.proofs.Signs.{through-grows, through-append}
 use Rattle.core.proofs.Runs.{run-none, run-undecided, run-takes}
 
--- The run from a state.
-abbrev pub runOf : (ℕ → Job) → ℕ → State → List ℕ
-runOf job n s = run job (s .desk .minute) (left (s .taken) n)
+pub without-append : (a b left : List ℕ) → withoutAll (a ++ b) left ≡ withoutAll b (withoutAll a left)
+unfolding withoutAll
+without-append [] b left = refl
+without-append (i ∷ is) b left = without-append is b (without i left)
 
--- What the run from the state s leads to is what the run from the beginning leads to.
-pub record Toward (job : ℕ → Job) (n : ℕ) (begin s : State) : Type 0 where
-  pub going : Going n s
-  pub state : takeRows job s (runOf job n s) ≡ takeRows job begin (runOf job n begin)
-  pub rows : withoutAll (runOf job n s) (left (s .taken) n) ≡ withoutAll (runOf job n begin) (left (begin .taken) n)
+-- One row more of the order so far.
+order-more : (order done : List ℕ) (k i : ℕ) → k < length order → take k order ≡ done → take (k + 1) (set order k i) ≡ done ++ (i ∷ [])
+order-more order done k i h e = ap (λ (m : ℕ). take m (set order k i)) (add-one k) ∙ (take-suc-set order k i h ∙ ap (λ (l : List ℕ). l ++ (i ∷ [])) e)
 
-module _ (job : ℕ → Job) where
-  -- The pick of the rows left over.
-  module _ (t i : ℕ) where
-    pub pick-some : (js : List ℕ) → i ≡ firstPick job t js → (i ≡ 0 → ⊥) → List·Memᴰ i js
-    pick-some [] e n = absurd (n (unfold firstPick in e))
-    pick-some (j ∷ js) e n = subst (λ (k : ℕ). List·Memᴰ k (j ∷ js)) (sym e) (pick-mem job t j js)
+module _ (n : ℕ) (job : ℕ → Job) (by : ℕ → ℕ) where
+  -- From the desk b with the rows `all` left over the rows `taken` are taken; the run from the desk s is what is left of the run from b.
+  pub record Toward (all : List ℕ) (b : Standing) (order₀ : List ℕ) (s : Standing) (order : List ℕ) : Type 0 where
+    pub taken : List ℕ
+    pub sits : Sits n job by (withoutAll taken all) s
+    pub same : run job (b .desk .minute) all ≡ taken ++ run job (s .desk .minute) (withoutAll taken all)
+    pub desk : s .desk ≡ deskThrough job (b .desk) taken
+    pub count : s .count ≡ b .count + length taken
+    pub written : take (s .count) order ≡ take (b .count) order₀ ++ taken
+    pub before : take (b .count) order ≡ take (b .count) order₀
+    pub places : length order ≡ 256
 
-    module _ (n : ℕ) (taken : List Bool) where
-      pick-none : (js : List ℕ) → js ≡ left taken n → i ≡ firstPick job t js → i ≡ 0 → js ≡ []
-      pick-none [] s e z = refl
-      pick-none (j ∷ js) s e z =
-          let m : List·Memᴰ i (left taken n) = subst (λ (l : List ℕ). List·Memᴰ i l) s (subst (λ (k : ℕ). List·Memᴰ k (j ∷ js)) (sym e) (pick-mem job t j js)) in
-          let b : ⊥ = omega (arith, left-row taken n m .low) in
-          absurd b
+  pub toward-first : (all : List ℕ) (b : Standing) (order : List ℕ) → Sits n job by all b → length order ≡ 256 → Toward all b order b order
+  unfolding withoutAll deskThrough
+  toward-first all b order g l = record {
+    taken = [];
+    sits = g;
+    same = refl;
+    desk = refl;
+    count = omega arith;
+    written = sym (append-nil (take (b .count) order));
+    before = refl;
+    places = l;
+  }
 
-      pick-within : (js : List ℕ) → js ≡ left taken n → i ≡ firstPick job t js → i ≤ n
-      pick-within [] s e = unfold firstPick in omega arith
-      pick-within (j ∷ js) s e =
-          let m : List·Memᴰ i (left taken n) = subst (λ (l : List ℕ). List·Memᴰ i l) s (subst (λ (k : ℕ). List·Memᴰ k (j ∷ js)) (sym e) (pick-mem job t j js)) in
-          omega (arith, left-row taken n m .high)
-
-      pub pick-high : i ≡ firstPick job t (left taken n) → i ≤ n
-      pick-high e = pick-within (left taken n) refl e
-
-  module _ (n : ℕ) (small : n ≤ 256) (s : State) (g : Going n s) where
-    abbrev now : ℕ
-    now = s .desk .minute
-
+  module _ (limits : Limits job) (all : List ℕ) (b : Standing) (order₀ : List ℕ) (s : Standing) (order : List ℕ) (o : Toward all b order₀ s order) where
     abbrev rest : List ℕ
-    rest = left (s .taken) n
+    rest = withoutAll (o .taken) all
 
-    -- A row that is left over.
-    module _ (i : ℕ) (m : List·Memᴰ i rest) where
-      pub row-high : i ≤ 256
-      row-high = omega (arith, left-row (s .taken) n m .high)
+    abbrev whole : List ℕ
+    whole = run job (b .desk .minute) all
 
-      pub room : s .count < n
-      room = omega (arith, length-without i rest m, g .rows)
-
-      pub marked : left (set (s .taken) i true) n ≡ without i rest
-      marked = left-mark (s .taken) n i (omega (arith, row-high, g .marks)) m
-
-      -- What taking it asks for, and what it leads to.
-      pub may-take : (i ≤ 256) × (s .count < 256) × (now ≤ 20000000)
-      may-take = (row-high, omega (arith, room), omega (arith, g .minutes, room))
-
-      going : Limits job → Going n (takeRow job s i)
-      unfolding finish
-      going k = record {
-        marks = simp length-set (g .marks);
-        places = simp length-set (g .places);
-        rows = omega (arith, ap length marked, length-without i rest m, g .rows);
-        minutes = omega (arith, g .minutes, k .releases i, k .lengths i);
-        lates = omega (arith, g .minutes, g .lates, k .releases i, k .lengths i);
-      }
-
-      pub taken-going : Limits job → (next : State) → next ≡ takeRow job s i → Going n next
-      taken-going k next e = subst (λ (u : State). Going n u) (sym e) (going k)
-
-      pub taken-less : (next : State) → next ≡ takeRow job s i → n - next .count < n - s .count
-      taken-less next e = omega (arith, room, ap (λ (u : State). u .count) e)
-
-    -- The code's first pick i, with no row passed over.
-    module _ (i : ℕ) (picks : i ≡ firstPick job now (left (set (s .taken) 0 true) n)) where
-      pub first-pick : i ≡ firstPick job now rest
-      first-pick = picks ∙ ap (firstPick job now) (left-all (s .taken) n)
-
-      pub none-left : i ≡ 0 → rest ≡ []
-      none-left z = pick-none now i n (s .taken) rest refl first-pick z
-
-      pub picked : (i ≡ 0 → ⊥) → List·Memᴰ i rest
-      picked z = pick-some now i rest first-pick z
-
-      -- The second pick j, with the row i passed over.
-      module _ (m : List·Memᴰ i rest) (j : ℕ) (next-picks : j ≡ firstPick job now (left (set (s .taken) i true) n)) where
-        pub second-pick : j ≡ secondPick job now rest
-        unfolding secondPick others
-        second-pick = next-picks ∙ ap (firstPick job now) (marked i m ∙ ap (λ (k : ℕ). without k rest) first-pick)
-
-        module _ (d : Bool) (says : d ≡ (eqb j 0 || leb (job i .due) (job j .due))) where
-          deciding : d ≡ decided job now rest
-          deciding =
-              says ∙ ((λ x. eqb (second-pick x) 0 || leb (job (first-pick x) .due) (job (second-pick x) .due)) ∙
-              decided-is job now rest i m (λ k o. left-row (s .taken) n o .low))
-
-          pub undecided : d ≡ false → decided job now rest ≡ false
-          undecided f = sym deciding ∙ f
-
-          module _ (f : d ≡ true) (next : State) (after : next ≡ takeRow job s i) where
-            rows-next : left (next .taken) n ≡ without i rest
-            rows-next = ap (λ (u : State). left (u .taken) n) after ∙ marked i m
-
-            -- The run from here is the row, and the run from there.
-            runs-on : runOf job n s ≡ i ∷ runOf job n next
-            runs-on =
-                let t : next .desk .minute ≡ finish (job i) now = ap (λ (u : State). u .desk .minute) after in
-                run-takes job now rest (subst (λ (k : ℕ). List·Memᴰ k rest) first-pick m) (sym deciding ∙ f) ∙
-                (ap (λ (k : ℕ). k ∷ run job (finish (job k) now) (without k rest)) (sym first-pick) ∙
-                (λ x. i ∷ run job (sym t x) (sym rows-next x)))
-
-            pub goes-on : (begin : State) → Limits job → Toward job n begin s → Toward job n begin next
-            unfolding takeRows withoutAll
-            goes-on begin k o = record {
-              going = taken-going i m k next after;
-              state = ap (λ (u : State). takeRows job u (runOf job n next)) after ∙ (ap (takeRows job s) (sym runs-on) ∙ o .state);
-              rows = ap (withoutAll (runOf job n next)) rows-next ∙ (ap (λ (is : List ℕ). withoutAll is rest) (sym runs-on) ∙ o .rows);
-            }
-
-  -- Where the run is at its end, the state is that after the run.
-  module _ (n : ℕ) (begin s : State) (o : Toward job n begin s) where
-    ended : runOf job n s ≡ [] → (left (s .taken) n ≡ []) ⊎ (decided job (s .desk .minute) (left (s .taken) n) ≡ false) → After job n begin (runOf job n begin) s
-    unfolding takeRows withoutAll
-    ended e u = record {
-      state = ap (takeRows job s) (sym e) ∙ o .state;
-      rows = ap (λ (is : List ℕ). withoutAll is (left (s .taken) n)) (sym e) ∙ o .rows;
-      going = o .going;
-      stuck = u;
+    -- A lateness is above the bound.
+    pub ran-over : (bound : ℕ) → bound < s .desk .worst → Ran n job by bound all b whole order₀ s order
+    ran-over bound h = record {
+      kept = λ k. let z : ⊥ = omega arith in absurd z;
+      over = λ k. omega (
+        arith,
+        ap (λ (l : List ℕ). deskThrough job (b .desk) l .worst) (o .same),
+        ap (λ (d : Desk). d .worst) (through-append job (b .desk) (o .taken) (run job (s .desk .minute) rest)),
+        ap (λ (d : Desk). deskThrough job d (run job (s .desk .minute) rest) .worst) (o .desk),
+        through-grows job limits (s .desk) (run job (s .desk .minute) rest),
+      );
+      before = o .before;
+      counts = (omega (arith, o .count), omega (arith, o .sits .count));
+      places = o .places;
     }
 
-    pub ended-none : left (s .taken) n ≡ [] → After job n begin (runOf job n begin) s
-    ended-none e = ended (ap (run job (s .desk .minute)) e ∙ run-none job (s .desk .minute)) (inl e)
+    -- The run ends here.
+    ended : run job (s .desk .minute) rest ≡ [] → Stuck n job by (s .desk .minute) rest → (bound : ℕ) → Ran n job by bound all b whole order₀ s order
+    ended e u bound =
+        let t : whole ≡ o .taken = o .same ∙ (ap (λ (l : List ℕ). o .taken ++ l) e ∙ append-nil (o .taken)) in
+        record {
+          kept = λ k. (
+            record {
+              sits = subst (λ (l : List ℕ). Sits n job by (withoutAll l all) s) (sym t) (o .sits);
+              desk = o .desk ∙ ap (deskThrough job (b .desk)) (sym t);
+              count = o .count ∙ ap (λ (l : List ℕ). b .count + length l) (sym t);
+              stuck = subst (λ (l : List ℕ). Stuck n job by (s .desk .minute) (withoutAll l all)) (sym t) u;
+            },
+            o .written ∙ ap (λ (l : List ℕ). take (b .count) order₀ ++ l) (sym t),
+          );
+          over = λ k. omega (arith, ap (λ (d : Desk). d .worst) (o .desk), ap (λ (l : List ℕ). deskThrough job (b .desk) l .worst) t);
+          before = o .before;
+          counts = (omega (arith, o .count), omega (arith, o .sits .count));
+          places = o .places;
+        }
 
-    pub ended-undecided : decided job (s .desk .minute) (left (s .taken) n) ≡ false → After job n begin (runOf job n begin) s
-    ended-undecided e = ended (run-undecided job (s .desk .minute) (left (s .taken) n) e) (inr e)
+    pub ran-none : rest ≡ [] → (bound : ℕ) → Ran n job by bound all b whole order₀ s order
+    ran-none e = ended (ap (run job (s .desk .minute)) e ∙ run-none job (s .desk .minute)) (inl e)
+
+    pub ran-torn : decided job (s .desk .minute) rest ≡ false → (bound : ℕ) → Ran n job by bound all b whole order₀ s order
+    ran-torn e = ended (run-undecided job (s .desk .minute) rest e) (inr e)
+
+    -- The first pick is taken.
+    module _ (i : ℕ) (first : i ≡ firstPick job (s .desk .minute) rest) (m : List·Memᴰ i rest) (r : Standing) (a : Taken n job by rest s i r) where
+      pub toward-next : decided job (s .desk .minute) rest ≡ true → s .count < 256 → Toward all b order₀ r (set order (s .count) i)
+      unfolding withoutAll deskThrough
+      toward-next d h =
+          let more = o .taken ++ (i ∷ []) in
+          let l : without i rest ≡ withoutAll more all = sym (without-append (o .taken) (i ∷ []) all) in
+          let t : r .desk .minute ≡ finish (job i) (s .desk .minute) = ap (λ (x : Desk). x .minute) (a .desk) in
+          let goes : run job (s .desk .minute) rest ≡ i ∷ run job (r .desk .minute) (withoutAll more all) =
+          run-takes job (s .desk .minute) rest (subst (λ (k : ℕ). List·Memᴰ k rest) first m) d ∙
+          (ap (λ (k : ℕ). k ∷ run job (finish (job k) (s .desk .minute)) (without k rest)) (sym first) ∙
+          (λ x. i ∷ run job (sym t x) (l x))) in
+          record {
+            taken = more;
+            sits = subst (λ (js : List ℕ). Sits n job by js r) l (a .sits);
+            same = o .same ∙ (ap (λ (js : List ℕ). o .taken ++ js) goes ∙ sym (append-assoc (o .taken) (i ∷ []) (run job (r .desk .minute) (withoutAll more all))));
+            desk = a .desk ∙ (ap (λ (x : Desk). deskAfter x (job i)) (o .desk) ∙ sym (through-append job (b .desk) (o .taken) (i ∷ [])));
+            count = omega (arith, a .count, o .count, length-append (o .taken) (i ∷ []));
+            written =
+                ap (λ (k : ℕ). take k (set order (s .count) i)) (a .count) ∙
+                (order-more order (take (b .count) order₀ ++ o .taken) (s .count) i (omega (arith, o .places)) (o .written) ∙
+                append-assoc (take (b .count) order₀) (o .taken) (i ∷ []));
+            before = take-set-le (b .count) order (s .count) i (omega (arith, o .count)) ∙ o .before;
+            places = length-set order (s .count) i ∙ o .places;
+          }
+
+      pub toward-less : n - r .count < n - s .count
+      toward-less = omega (arith, a .count, a .sits .count)
+
+  -- A row, and the run from there.
+  module _ (limits : Limits job) (rest : List ℕ) (s : Standing) (order : List ℕ) (i : ℕ) (first : Standing) (a : Taken n job by rest s i first) (h : s .count < 256) (l : length order ≡ 256) where
+    abbrev begun : List ℕ
+    begun = set order (s .count) i
+
+    pub block-ran : (bound : ℕ) (r : Standing) (after : List ℕ) →
+        Ran n job by bound (without i rest) first (run job (first .desk .minute) (without i rest)) begun r after →
+        (s .count < r .count) × Ran n job by bound rest s (block job i (s .desk .minute) rest) order r after
+    unfolding block withoutAll deskThrough
+    block-ran bound r after q = (omega (arith, a .count, q .counts), ran)
+      where
+        ran : Ran n job by bound rest s (block job i (s .desk .minute) rest) order r after
+        ran =
+            let t : first .desk .minute ≡ finish (job i) (s .desk .minute) = ap (λ (x : Desk). x .minute) (a .desk) in
+            let on = run job (finish (job i) (s .desk .minute)) (without i rest) in
+            let e : run job (first .desk .minute) (without i rest) ≡ on = ap (λ (k : ℕ). run job k (without i rest)) t in
+            let d : deskThrough job (first .desk) (run job (first .desk .minute) (without i rest)) ≡ deskThrough job (deskAfter (s .desk) (job i)) on = λ x. deskThrough job (a .desk x) (e x) in
+            let w : take (first .count) begun ≡ take (s .count) order ++ (i ∷ []) = ap (λ (k : ℕ). take k begun) (a .count) ∙ order-more order (take (s .count) order) (s .count) i (omega arith) refl in
+            record {
+              kept = λ k.
+                  let m = q .kept k in (
+                    record {
+                      sits = subst (λ (js : List ℕ). Sits n job by (withoutAll js (without i rest)) r) e (m .0 .sits);
+                      desk = m .0 .desk ∙ d;
+                      count = omega (arith, m .0 .count, a .count, ap length e);
+                      stuck = subst (λ (js : List ℕ). Stuck n job by (r .desk .minute) (withoutAll js (without i rest))) e (m .0 .stuck);
+                    },
+                    m .1 ∙ ((λ x. w x ++ e x) ∙ append-assoc (take (s .count) order) (i ∷ []) on),
+                  );
+              over = λ k. omega (arith, q .over k, ap (λ (x : Desk). x .worst) d);
+              before =
+                  sym (take-take (s .count) (first .count) after (omega (arith, a .count))) ∙
+                  (ap (take (s .count)) (q .before) ∙
+                  (take-take (s .count) (first .count) begun (omega (arith, a .count)) ∙
+                  take-set-le (s .count) order (s .count) i (omega arith)));
+              counts = (omega (arith, a .count, q .counts), q .counts .1);
+              places = q .places;
+            }

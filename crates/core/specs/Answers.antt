@@ -1,11 +1,11 @@
 -- What the core answers: the order for a bound with its pair, and the list of plans. Latenesses are raised by 2³¹.
 -- Rests on: Columns, Taking, and the schedule's order for a bound and plans.
-use Prim.Native.Nat.{ℕ, zero, suc, _+_, _≤_}
-use mathlib.Core.Bool.{true, cond}
+use Prim.Native.Nat.{ℕ, zero, suc, _+_, _≤_, _<_}
+use mathlib.Core.Bool.{cond}
 use mathlib.Core.Path.{_≡_}
 use mathlib.Core.List.{List, _++_, map}
 use mathlib.Core.Option.{Option, none, some}
-use lib.Dec.{eqb}
+use lib.Dec.{eqb, leb}
 use lib.ListN.{length, getD, set, take, drop}
 use Rattle.theory.specs.Jobs.{Job}
 use Rattle.schedule.specs.declared.Desk.{Desk}
@@ -14,16 +14,20 @@ use Rattle.schedule.specs.Desk.{endOf, pairOf}
 use Rattle.schedule.specs.Picks.{orderFor}
 use Rattle.schedule.specs.Plans.{plans}
 use Rattle.schedule.specs.Offset.{raised, lowered, deskAt}
-use Rattle.core.specs.declared.Plan.{Plan}
+use Rattle.picks.specs.declared.Standing.{Standing}
 use Rattle.core.specs.declared.Front.{Front}
 use Rattle.core.specs.declared.Planned.{Planned}
 use Rattle.core.specs.declared.Planned.the-variants.{Kept, Unkept}
-use Rattle.core.specs.Taking.{startAt, deskThrough, planOf}
+use Rattle.core.specs.Taking.{deskThrough}
 
 -- A raised lateness is at least 1, at most the bound, and at most 17,680,000 raised.
 abbrev pub Bounded : ℕ → Planned → Type 0
 Bounded bound Unkept = Unit {0}
 Bounded bound (Kept end late) = (1 ≤ late) × (late ≤ bound) × (late ≤ 2165163648)
+
+-- What a desk answers for a bound: its pair, where its worst lateness is within the bound.
+unfoldable pub answerOf : Desk → ℕ → Planned
+answerOf d bound = cond (leb (d .worst) bound) (Kept (d .minute) (d .worst)) Unkept
 
 -- The place of the next pair on the list: that of the last pair where both have one end, otherwise the place after it.
 unfoldable pub placeOf : List ℕ → ℕ → ℕ → ℕ
@@ -51,11 +55,11 @@ module _ (job : ℕ → Job) where
   abbrev pub orderOf : ℕ → ℕ → ℕ → Option (List ℕ)
   orderOf n free bound = orderFor job free (countFrom 1 n) (lowered bound)
 
-  -- The whole outcome of the search for the order for a bound: the plan, and what its state is within.
-  pub record Searched (n free bound : ℕ) (r : Plan) : Type 0 where
-    pub plan : r ≡ planOf job (startAt free) (startAt free) (orderOf n free bound)
-    pub count : r .state .count ≤ n
-    pub kept : r .kept ≡ true → (r .state .count ≡ n) × (1 ≤ r .state .desk .worst) × (r .state .desk .worst ≤ bound) × (r .state .desk .worst ≤ 2165163648)
+  -- The whole outcome of the search for the order for a bound: the desk after it and the order; or that the bound is unkept.
+  pub record Searched (n free bound : ℕ) (r : Standing) (order : List ℕ) : Type 0 where
+    pub kept : r .desk .worst ≤ bound → (orderOf n free bound ≡ some (take n order)) × (r .desk ≡ deskThrough job (deskAt free) (take n order)) × (r .desk .worst ≤ 2165163648)
+    pub over : bound < r .desk .worst → orderOf n free bound ≡ none
+    pub places : length order ≡ 256
 
   -- The whole outcome of the call for an order's pair.
   pub record Paired (n free bound : ℕ) (answer : Planned) : Type 0 where

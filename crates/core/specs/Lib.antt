@@ -1,3 +1,3 @@
-pub mod Columns
 pub mod Taking
 pub mod Answers
+pub mod Trails

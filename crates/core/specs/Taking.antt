@@ -1,70 +1,50 @@
--- The planner's state, and what taking rows one after another makes of it: the desk, the marks and the order so far.
--- Rests on: Columns, and the schedule's desk, picks and blocks.
-use Prim.Native.Nat.{ℕ, _+_, _*_, _≤_}
-use mathlib.Core.Bool.{true, false, cond}
+-- What runs and blocks make of a desk in planning: the desk, the rows left over and the order so far, within a bound.
+-- Rows are numbered by rank. Rests on: the schedule's desk, picks and blocks, and the desk in planning.
+use Prim.Native.Nat.{ℕ, _+_, _≤_, _<_}
+use mathlib.Core.Bool.{Bool, true, false}
 use mathlib.Core.Path.{_≡_}
-use mathlib.Core.List.{List, [], _∷_}
+use mathlib.Core.List.{List, [], _∷_, _++_}
 use mathlib.Core.Logic.{_⊎_}
-use mathlib.Core.Option.{Option, none, some}
-use lib.Dec.{eqb}
-use lib.ListN.{length, set, replicate}
-use lib.IntN.{ℤ}
+use lib.ListN.{length, take}
 use Rattle.theory.specs.Jobs.{Job}
 use Rattle.schedule.specs.declared.Desk.{Desk}
 use Rattle.schedule.specs.Rows.{withoutAll}
-use Rattle.schedule.specs.Desk.{keeps}
-use Rattle.schedule.specs.Picks.{outranks, before, decided, blockOne, blockTwo}
-use Rattle.schedule.specs.Offset.{deskAt, deskAfter}
-use Rattle.core.specs.declared.State.{State}
-use Rattle.core.specs.declared.Plan.{Plan}
-use Rattle.core.specs.Columns.{left}
-
--- A state with nothing done yet.
-unfoldable pub startAt : ℕ → State
-startAt free = record { desk = deskAt free; count = 0; taken = replicate 257 false; order = replicate 256 0 }
-
--- The rows taken so far and those left are n; the minute and the worst lateness are within what the rows taken allow.
-pub record Going (n : ℕ) (s : State) : Type 0 where
-  pub marks : length (s .taken) ≡ 257
-  pub places : length (s .order) ≡ 256
-  pub rows : s .count + length (left (s .taken) n) ≡ n
-  pub minutes : s .desk .minute ≤ 10000000 + 30000 * s .count
-  pub lates : s .desk .worst ≤ 2157483648 + 30000 * s .count
+use Rattle.schedule.specs.Picks.{decided, blockOne, blockTwo}
+use Rattle.schedule.specs.Offset.{deskAfter}
+use Rattle.picks.specs.declared.Standing.{Standing}
+use Rattle.picks.specs.Standing.{Sits}
+use Rattle.core.specs.declared.Block.{Block}
 
 module _ (job : ℕ → Job) where
-  -- The one of two rows that outranks the other.
-  unfoldable pub ranked : ℕ → ℕ → ℕ
-  ranked i j = cond (outranks job j i) j i
-
-  -- The one of two rows that goes before the other; 0, which is no row, gives way to any.
-  unfoldable pub better : ℕ → ℕ → ℕ → ℕ
-  better t i j = cond (eqb i 0) j (cond (before job t j i) j i)
-
   -- The desk after rows one after another.
   unfoldable pub deskThrough : Desk → List ℕ → Desk
   deskThrough d [] = d
   deskThrough d (i ∷ is) = deskThrough (deskAfter d (job i)) is
 
-  -- The state after a row, and after rows one after another.
-  abbrev pub takeRow : State → ℕ → State
-  takeRow s i = record { desk = deskAfter (s .desk) (job i); count = s .count + 1; taken = set (s .taken) i true; order = set (s .order) (s .count) i }
+module _ (n : ℕ) (job : ℕ → Job) (by : ℕ → ℕ) where
+  -- No row is left, or the desk is not decided.
+  abbrev pub Stuck : ℕ → List ℕ → Type 0
+  Stuck t rest = (rest ≡ []) ⊎ (decided job t rest ≡ false)
 
-  unfoldable pub takeRows : State → List ℕ → State
-  takeRows s [] = s
-  takeRows s (i ∷ is) = takeRows (takeRow s i) is
+  -- The desk r is the desk s after the rows `taken` of the rows `rest`, and a run ends there.
+  pub record Moved (rest : List ℕ) (s : Standing) (taken : List ℕ) (r : Standing) : Type 0 where
+    pub sits : Sits n job by (withoutAll taken rest) r
+    pub desk : r .desk ≡ deskThrough job (s .desk) taken
+    pub count : r .count ≡ s .count + length taken
+    pub stuck : Stuck (r .desk .minute) (withoutAll taken rest)
 
-  -- The state r is that after an order from the state s, and no row is left there or the desk is not decided.
-  pub record After (n : ℕ) (s : State) (order : List ℕ) (r : State) : Type 0 where
-    pub state : r ≡ takeRows s order
-    pub rows : left (r .taken) n ≡ withoutAll order (left (s .taken) n)
-    pub going : Going n r
-    pub stuck : (left (r .taken) n ≡ []) ⊎ (decided job (r .desk .minute) (left (r .taken) n) ≡ false)
+  -- The rows `taken` are taken as long as the bound is kept: the desk r, and the order so far as it was and as it is after.
+  pub record Ran (bound : ℕ) (rest : List ℕ) (s : Standing) (taken order : List ℕ) (r : Standing) (after : List ℕ) : Type 0 where
+    pub kept : r .desk .worst ≤ bound → Moved rest s taken r × (take (r .count) after ≡ take (s .count) order ++ taken)
+    pub over : bound < r .desk .worst → bound < deskThrough job (s .desk) taken .worst
+    pub before : take (s .count) after ≡ take (s .count) order
+    pub counts : (s .count ≤ r .count) × (r .count ≤ n)
+    pub places : length after ≡ 256
 
-  -- Block one if it keeps the bound y, otherwise block two.
-  unfoldable pub blockFor : ℤ → ℕ → List ℕ → List ℕ
-  blockFor y t rest = cond (keeps job y t (blockOne job t rest)) (blockOne job t rest) (blockTwo job t rest)
-
-  -- The plan of an order from the state s; where there is none, the state is that at the start.
-  unfoldable pub planOf : State → State → Option (List ℕ) → Plan
-  planOf begin s none = record { kept = false; state = begin }
-  planOf begin s (some order) = record { kept = true; state = takeRows s order }
+  -- The next block: block one where the bound is kept with it, otherwise block two.
+  pub record Stepped (bound : ℕ) (rest : List ℕ) (s : Standing) (order : List ℕ) (r : Block) (after : List ℕ) : Type 0 where
+    pub one : r .second ≡ false → (r .after .desk .worst ≤ bound) × Ran bound rest s (blockOne job (s .desk .minute) rest) order (r .after) after
+    pub two : r .second ≡ true → (bound < deskThrough job (s .desk) (blockOne job (s .desk .minute) rest) .worst) ×
+        Ran bound rest s (blockTwo job (s .desk .minute) rest) order (r .after) after
+    pub counts : (s .count < r .after .count) × (r .after .count ≤ n)
+    pub places : length after ≡ 256

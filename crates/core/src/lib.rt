@@ -1,32 +1,21 @@
-// The planner's search over columns of numbers: picks, runs, blocks, the order for a bound, and the list of plans.
+// The planner's search over columns of numbers: runs, blocks, the order for a bound, and the list of plans.
 // Rows are numbered from 1, so columns have 257 places; 0 stands for no row. Latenesses and bounds are raised by 2^31.
+// The search goes over columns in the order of rank, where a row's number is its rank; `order_for` and `list_plans` make them once a call.
 ghost use mathlib.Core.Path.{_≡_};
-ghost use mathlib.Core.Bool.{true, false, _||_};
-ghost use mathlib.Core.List.{List·Memᴰ, _++_};
+ghost use mathlib.Core.Bool.{Bool, true, false, _||_};
+ghost use mathlib.Core.List.{List, List·Memᴰ, _++_, map};
 ghost use Prim.Native.Nat.{ℕ, _+_, _-_, _≤_, _<_};
 ghost use lib.Dec.{leb, eqb};
-ghost use lib.ListN.{getD, take, drop, set};
+ghost use lib.ListN.{getD, take, drop};
 ghost use Rattle.schedule.specs.Rows.{countFrom};
-ghost use Rattle.schedule.specs.Picks.{firstPick, decided, run, block};
+ghost use Rattle.schedule.specs.Picks.{decided, run, block, blockTwo};
 ghost use Rattle.schedule.specs.Promise.{Agreeing};
-ghost use Rattle.schedule.specs.Offset.{lowered};
-ghost use Rattle.core.specs.Columns.{columns, Limits, left};
-ghost use Rattle.core.specs.Taking.{startAt, Going, ranked, better, takeRow, After, blockFor};
-ghost use Rattle.core.specs.Answers.{Searched, Paired, Ordered, Followed, placeOf, putPair, Listed};
-
-// The planner's state: the desk, and the rows taken so far, marked and in order.
-struct State {
-    desk: schedule::Desk,
-    count: usize,
-    taken: [bool; 257],
-    order: [u32; 256],
-}
-
-// What the search for an order comes to; where the bound is not kept, the state is that at the start.
-struct Plan {
-    kept: bool,
-    state: State,
-}
+ghost use Rattle.schedule.specs.Columns.{at, columns, Limits};
+ghost use Rattle.picks.specs.declared.Standing.{Standing};
+ghost use Rattle.picks.specs.Standing.{Tables, Sits};
+ghost use Rattle.core.specs.Taking.{Ran, Stepped};
+ghost use Rattle.core.specs.Answers.{Searched, Ordered, Followed, answerOf, placeOf, putPair, Listed};
+ghost use Rattle.core.specs.Trails.{wordsOf, Fits, Back, Came, Found, Lowered};
 
 // The answer for a bound: the order's end and its worst lateness, raised.
 pub enum Planned {
@@ -44,116 +33,16 @@ pub struct Front {
 // The largest bound: the largest signed 32-bit number, raised by 2^31.
 const LARGEST_BOUND: u32 = 4_294_967_295;
 
-// Of two rows that are equal picks, the one that outranks the other: due first, then the smaller release plus length, then the smaller row.
-fn tied_row(
-    release: &[u32; 257],
-    length: &[u32; 257],
-    due: &[u32; 257],
-    i: usize,
-    j: usize,
-) -> usize
-    requires { ⌜ Limits (columns (now release) (now length) (now due)) ⌝ }
-    requires { ⌜ (i < 257) × (j < 257) ⌝ }
-    ensures { λ r. ⌜ r ≡ ranked (columns (now (release .entry)) (now (length .entry)) (now (due .entry))) i j ⌝ }
-{
-    let d = due[i];
-    let e = due[j];
-    if e < d {
-        return j;
-    }
-    if d < e {
-        return i;
-    }
-    let p = release[i] + length[i];
-    let q = release[j] + length[j];
-    if q < p {
-        return j;
-    }
-    if p < q {
-        return i;
-    }
-    if j < i { j } else { i }
+// The block that is taken next: whether it is block two, and the desk after it; the bound is kept exactly if the desk's worst lateness is within it.
+struct Block {
+    second: bool,
+    after: picks::Standing,
 }
 
-// The one of two rows that goes before the other at the minute t: ready first, then by rank. 0 gives way to any row.
-fn better_row(
-    release: &[u32; 257],
-    length: &[u32; 257],
-    due: &[u32; 257],
-    t: u32,
-    i: usize,
-    j: usize,
-) -> usize
-    requires { ⌜ Limits (columns (now release) (now length) (now due)) ⌝ }
-    requires { ⌜ (i < 257) × (j < 257) ⌝ }
-    ensures { λ r. ⌜ r ≡ better (columns (now (release .entry)) (now (length .entry)) (now (due .entry))) t i j ⌝ }
-{
-    if i == 0 {
-        return j;
-    }
-    let a = schedule::later(t, release[i]);
-    let b = schedule::later(t, release[j]);
-    if b < a {
-        return j;
-    }
-    if a < b {
-        return i;
-    }
-    tied_row(release, length, due, i, j)
-}
-
-// The first pick among the rows 1 to n that are not taken, passing over the row `skip` (0 for none); or 0 where there is none.
-fn pick(
-    release: &[u32; 257],
-    length: &[u32; 257],
-    due: &[u32; 257],
-    taken: &[bool; 257],
-    skip: usize,
-    n: usize,
-    t: u32,
-) -> usize
-    requires { ⌜ Limits (columns (now release) (now length) (now due)) ⌝ }
-    requires { ⌜ (n ≤ 256) × (lib.ListN.length (now taken) ≡ 257) ⌝ }
-    ensures { λ r. ⌜ r ≡ firstPick (columns (now (release .entry)) (now (length .entry)) (now (due .entry))) t (left (set (now (taken .entry)) skip true) n) ⌝ }
-{
-    let mut best: usize = 0;
-    let mut i: usize = 1;
-    while i <= n {
-        if i != skip {
-            if !taken[i] {
-                best = better_row(release, length, due, t, best, i);
-            }
-        }
-        i += 1;
-    }
-    best
-}
-
-// Row i is taken: it moves the desk, is marked, and stands next in the order.
-fn take_row(
-    release: &[u32; 257],
-    length: &[u32; 257],
-    due: &[u32; 257],
-    s: State,
-    i: usize,
-) -> State
-    requires { ⌜ Limits (columns (now release) (now length) (now due)) ⌝ }
-    requires { ⌜ (i ≤ 256) × (s .count < 256) × (s .desk .minute ≤ 20000000) ⌝ }
-    ensures { λ r. ⌜ r ≡ takeRow (columns (now (release .entry)) (now (length .entry)) (now (due .entry))) s i ⌝ }
-{
-    let k = s.count;
-    let desk = s.desk;
-    let next = desk.take(release[i], length[i], due[i]);
-    let mut taken = s.taken;
-    taken[i] = true;
-    let mut order = s.order;
-    order[k] = i as u32;
-    State {
-        desk: next,
-        count: k + 1,
-        taken: taken,
-        order: order,
-    }
+// Where the search for a plan came to: the blocks on the way, and the desk after them.
+struct Reached {
+    depth: usize,
+    at: picks::Standing,
 }
 
 // The desk is decided: there is no second pick, or the first pick's due is at most the second pick's.
@@ -169,86 +58,120 @@ fn decided_by(due: &[u32; 257], i: usize, j: usize) -> bool
     d <= e
 }
 
-// First picks as long as the desk is decided.
+// First picks as long as the desk is decided and the bound is kept. The rows taken stand in the order from place `count` on.
 fn run_on(
     release: &[u32; 257],
     length: &[u32; 257],
     due: &[u32; 257],
+    by: &[u32; 256],
     n: usize,
-    begin: State,
-) -> State
+    begin: picks::Standing,
+    bound: u32,
+    order: &mut [u32; 256],
+) -> picks::Standing
     requires { ⌜ Limits (columns (now release) (now length) (now due)) ⌝ }
-    requires { ⌜ (n ≤ 256) × Going n begin ⌝ }
-    ensures { λ r. ⌜ After (columns (now (release .entry)) (now (length .entry)) (now (due .entry))) n begin
-        (run (columns (now (release .entry)) (now (length .entry)) (now (due .entry))) (begin .desk .minute) (left (begin .taken) n)) r ⌝ }
+    requires { ⌜ Tables n (columns (now release) (now length) (now due)) (at (now by)) ⌝ }
+    requires { ⌜ ((rest : List ℕ) × Sits n (columns (now release) (now length) (now due)) (at (now by)) rest begin) × (lib.ListN.length (now order) ≡ 256) ⌝ }
+    ensures { λ r. ⌜ ((rest : List ℕ) → Sits n (columns (now (release .entry)) (now (length .entry)) (now (due .entry))) (at (now (by .entry))) rest begin →
+        Ran n (columns (now (release .entry)) (now (length .entry)) (now (due .entry))) (at (now (by .entry))) bound rest begin (run (columns (now (release .entry)) (now (length .entry)) (now (due .entry))) (begin .desk .minute) rest) (now (order .entry)) r (now (order .exit))) ⌝ }
 {
     let mut s = begin;
     loop {
-        let t = s.desk.minute;
-        let i = pick(release, length, due, &s.taken, 0, n, t);
+        if bound < s.desk.worst {
+            return s;
+        }
+        let ready = s.ready;
+        let p = picks::picks(by, n, ready, s.next);
+        let i = p.first;
         if i == 0 {
             return s;
         }
-        let j = pick(release, length, due, &s.taken, i, n, t);
-        if !decided_by(due, i, j) {
+        if !decided_by(due, i, p.second) {
             return s;
         }
-        s = take_row(release, length, due, s, i);
+        let k = s.count;
+        order[k] = i as u32;
+        s = picks::take(release, length, due, by, n, s, i);
     }
 }
 
-// Row i, then the run from there.
+// Row i, then the run from there, as long as the bound is kept.
 fn block_on(
     release: &[u32; 257],
     length: &[u32; 257],
     due: &[u32; 257],
+    by: &[u32; 256],
     n: usize,
-    s: State,
+    s: picks::Standing,
     i: usize,
-) -> State
+    bound: u32,
+    order: &mut [u32; 256],
+) -> picks::Standing
     requires { ⌜ Limits (columns (now release) (now length) (now due)) ⌝ }
-    requires { ⌜ (n ≤ 256) × Going n s × List·Memᴰ i (left (s .taken) n) ⌝ }
-    ensures { λ r. ⌜ After (columns (now (release .entry)) (now (length .entry)) (now (due .entry))) n s
-        (block (columns (now (release .entry)) (now (length .entry)) (now (due .entry))) i (s .desk .minute) (left (s .taken) n)) r ⌝ }
+    requires { ⌜ Tables n (columns (now release) (now length) (now due)) (at (now by)) ⌝ }
+    requires { ⌜ ((rest : List ℕ) × Sits n (columns (now release) (now length) (now due)) (at (now by)) rest s × List·Memᴰ i rest) × (lib.ListN.length (now order) ≡ 256) ⌝ }
+    ensures { λ r. ⌜ ((rest : List ℕ) → Sits n (columns (now (release .entry)) (now (length .entry)) (now (due .entry))) (at (now (by .entry))) rest s → List·Memᴰ i rest →
+        (s .count < r .count) × Ran n (columns (now (release .entry)) (now (length .entry)) (now (due .entry))) (at (now (by .entry))) bound rest s (block (columns (now (release .entry)) (now (length .entry)) (now (due .entry))) i (s .desk .minute) rest) (now (order .entry)) r (now (order .exit))) ⌝ }
 {
-    let first = take_row(release, length, due, s, i);
-    run_on(release, length, due, n, first)
+    let k = s.count;
+    order[k] = i as u32;
+    let first = picks::take(release, length, due, by, n, s, i);
+    run_on(release, length, due, by, n, first, bound, order)
 }
 
-// Block one if all its latenesses are at most the bound, otherwise block two.
+// Block one if the bound is kept with it, otherwise block two.
 fn next_block(
     release: &[u32; 257],
     length: &[u32; 257],
     due: &[u32; 257],
+    by: &[u32; 256],
     n: usize,
-    s: State,
+    s: picks::Standing,
     bound: u32,
-) -> State
+    order: &mut [u32; 256],
+) -> Block
     requires { ⌜ Limits (columns (now release) (now length) (now due)) ⌝ }
-    requires { ⌜ (n ≤ 256) × Going n s × (s .desk .worst ≤ bound) × (decided (columns (now release) (now length) (now due)) (s .desk .minute) (left (s .taken) n) ≡ false) ⌝ }
-    ensures { λ r. ⌜ After (columns (now (release .entry)) (now (length .entry)) (now (due .entry))) n s
-        (blockFor (columns (now (release .entry)) (now (length .entry)) (now (due .entry))) (lowered bound) (s .desk .minute) (left (s .taken) n)) r ⌝ }
+    requires { ⌜ Tables n (columns (now release) (now length) (now due)) (at (now by)) ⌝ }
+    requires { ⌜ ((rest : List ℕ) × Sits n (columns (now release) (now length) (now due)) (at (now by)) rest s × (decided (columns (now release) (now length) (now due)) (s .desk .minute) rest ≡ false)) × (lib.ListN.length (now order) ≡ 256) ⌝ }
+    ensures { λ r. ⌜ ((rest : List ℕ) → Sits n (columns (now (release .entry)) (now (length .entry)) (now (due .entry))) (at (now (by .entry))) rest s → decided (columns (now (release .entry)) (now (length .entry)) (now (due .entry))) (s .desk .minute) rest ≡ false →
+        Stepped n (columns (now (release .entry)) (now (length .entry)) (now (due .entry))) (at (now (by .entry))) bound rest s (now (order .entry)) r (now (order .exit))) ⌝ }
 {
-    let t = s.desk.minute;
-    let i = pick(release, length, due, &s.taken, 0, n, t);
-    let one = block_on(release, length, due, n, s, i);
+    let ready = s.ready;
+    let p = picks::picks(by, n, ready, s.next);
+    let one = block_on(release, length, due, by, n, s, p.first, bound, order);
     if one.desk.worst <= bound {
-        return one;
+        return Block {
+            second: false,
+            after: one,
+        };
     }
-    let j = pick(release, length, due, &s.taken, i, n, t);
-    block_on(release, length, due, n, s, j)
+    let two = block_on(release, length, due, by, n, s, p.second, bound, order);
+    Block {
+        second: true,
+        after: two,
+    }
 }
 
-// A state with nothing done yet.
-fn start(free: u32) -> State
-    ensures { λ r. ⌜ r ≡ startAt free ⌝ }
+// Block two.
+fn block_two(
+    release: &[u32; 257],
+    length: &[u32; 257],
+    due: &[u32; 257],
+    by: &[u32; 256],
+    n: usize,
+    s: picks::Standing,
+    bound: u32,
+    order: &mut [u32; 256],
+) -> picks::Standing
+    requires { ⌜ Limits (columns (now release) (now length) (now due)) ⌝ }
+    requires { ⌜ Tables n (columns (now release) (now length) (now due)) (at (now by)) ⌝ }
+    requires { ⌜ ((rest : List ℕ) × Sits n (columns (now release) (now length) (now due)) (at (now by)) rest s × (decided (columns (now release) (now length) (now due)) (s .desk .minute) rest ≡ false)) × (lib.ListN.length (now order) ≡ 256) ⌝ }
+    ensures { λ r. ⌜ ((rest : List ℕ) → Sits n (columns (now (release .entry)) (now (length .entry)) (now (due .entry))) (at (now (by .entry))) rest s → decided (columns (now (release .entry)) (now (length .entry)) (now (due .entry))) (s .desk .minute) rest ≡ false →
+        (s .count < r .count) × Ran n (columns (now (release .entry)) (now (length .entry)) (now (due .entry))) (at (now (by .entry))) bound rest s (blockTwo (columns (now (release .entry)) (now (length .entry)) (now (due .entry))) (s .desk .minute) rest) (now (order .entry)) r (now (order .exit))) ⌝ }
 {
-    State {
-        desk: schedule::Desk::at(free),
-        count: 0,
-        taken: [false; 257],
-        order: [0; 256],
-    }
+    let ready = s.ready;
+    let p = picks::picks(by, n, ready, s.next);
+    block_on(release, length, due, by, n, s, p.second, bound, order)
 }
 
 // The search for the order for a bound: the run, then blocks, until no row is left or a lateness is above the bound.
@@ -256,41 +179,39 @@ fn plan_for(
     release: &[u32; 257],
     length: &[u32; 257],
     due: &[u32; 257],
+    by: &[u32; 256],
     n: usize,
     free: u32,
     bound: u32,
-) -> Plan
+    order: &mut [u32; 256],
+) -> picks::Standing
     requires { ⌜ Limits (columns (now release) (now length) (now due)) ⌝ }
-    requires { ⌜ (1 ≤ n) × (n ≤ 256) × (free ≤ 10000000) ⌝ }
-    ensures { λ r. ⌜ Searched (columns (now (release .entry)) (now (length .entry)) (now (due .entry))) n free bound r ⌝ }
+    requires { ⌜ Tables n (columns (now release) (now length) (now due)) (at (now by)) ⌝ }
+    requires { ⌜ (1 ≤ n) × (free ≤ 10000000) × (lib.ListN.length (now order) ≡ 256) ⌝ }
+    ensures { λ r. ⌜ Searched (columns (now (release .entry)) (now (length .entry)) (now (due .entry))) n free bound r (now (order .exit)) ⌝ }
 {
-    let begin = start(free);
-    let mut s = run_on(release, length, due, n, begin);
+    let begin = picks::start(release, by, n, free);
+    let mut s = run_on(release, length, due, by, n, begin, bound, order);
     loop {
         if bound < s.desk.worst {
-            return Plan {
-                kept: false,
-                state: begin,
-            };
+            return s;
         }
         if s.count == n {
-            return Plan {
-                kept: true,
-                state: s,
-            };
+            return s;
         }
-        s = next_block(release, length, due, n, s, bound);
+        let b = next_block(release, length, due, by, n, s, bound, order);
+        s = b.after;
     }
 }
 
-// The first k row numbers of an order, into a lent buffer.
-fn write_order(order: &[u32; 256], k: usize, out: &mut [u32])
-    requires { ⌜ (k ≤ 256) × (k ≤ lib.ListN.length (now out)) × (lib.ListN.length (now order) ≡ 256) ⌝ }
-    ensures { λ _. ⌜ now (out .exit) ≡ take k (now (order .entry)) ++ drop k (now (out .entry)) ⌝ }
+// The rows of the first k ranks of an order, into a lent buffer.
+fn write_order(order: &[u32; 256], rows: &[u32; 257], k: usize, out: &mut [u32])
+    requires { ⌜ (k ≤ 256) × (k ≤ lib.ListN.length (now out)) × (lib.ListN.length (now order) ≡ 256) × ((i : ℕ) → i < k → at (now order) i ≤ 256) ⌝ }
+    ensures { λ _. ⌜ now (out .exit) ≡ map (at (now (rows .entry))) (take k (now (order .entry))) ++ drop k (now (out .entry)) ⌝ }
 {
     let mut i = 0;
     while i < k {
-        out[i] = order[i];
+        out[i] = rows[order[i] as usize];
         i += 1;
     }
 }
@@ -309,34 +230,17 @@ pub fn order_for(
     requires { ⌜ (1 ≤ n) × (n ≤ 256) × (free ≤ 10000000) × (n ≤ lib.ListN.length (now out)) ⌝ }
     ensures { λ r. ⌜ Ordered (columns (now (release .entry)) (now (length .entry)) (now (due .entry))) n free bound (now (out .entry)) r (now (out .exit)) ⌝ }
 {
-    let p = plan_for(release, length, due, n, free, bound);
-    if !p.kept {
+    let rows = ranks::rows_by_rank(release, length, due, n);
+    let releases = ranks::by_rank(release, &rows, n);
+    let lengths = ranks::by_rank(length, &rows, n);
+    let dues = ranks::by_rank(due, &rows, n);
+    let by = ranks::rows_by_release(&releases, n);
+    let mut order: [u32; 256] = [0; 256];
+    let s = plan_for(&releases, &lengths, &dues, &by, n, free, bound, &mut order);
+    if bound < s.desk.worst {
         return Planned::Unkept;
     }
-    let s = p.state;
-    let count = s.count;
-    write_order(&s.order, count, out);
-    Planned::Kept(s.desk.minute, s.desk.worst)
-}
-
-// The pair of the order for a bound.
-fn pair_for(
-    release: &[u32; 257],
-    length: &[u32; 257],
-    due: &[u32; 257],
-    n: usize,
-    free: u32,
-    bound: u32,
-) -> Planned
-    requires { ⌜ Limits (columns (now release) (now length) (now due)) ⌝ }
-    requires { ⌜ (1 ≤ n) × (n ≤ 256) × (free ≤ 10000000) ⌝ }
-    ensures { λ r. ⌜ Paired (columns (now (release .entry)) (now (length .entry)) (now (due .entry))) n free bound r ⌝ }
-{
-    let p = plan_for(release, length, due, n, free, bound);
-    if !p.kept {
-        return Planned::Unkept;
-    }
-    let s = p.state;
+    write_order(&order, &rows, n, out);
     Planned::Kept(s.desk.minute, s.desk.worst)
 }
 
@@ -377,20 +281,206 @@ fn place_of(ends: &[u32; 256], count: usize, end: u32) -> usize
     count
 }
 
-// The list with one pair more, which takes the place of the last pair where both have one end.
-fn put_pair(front: Front, end: u32, late: u32) -> Front
-    requires { ⌜ (front .count ≤ 256) × (placeOf (front .ends) (front .count) end < 256) ⌝ }
-    ensures { λ r. ⌜ r ≡ putPair front end late ⌝ }
+// The list with one pair more, which takes the place of the last pair where both have one end; and the pairs there are then.
+fn put_pair(
+    ends: &mut [u32; 256],
+    lates: &mut [u32; 256],
+    count: usize,
+    end: u32,
+    late: u32,
+) -> usize
+    requires { ⌜ (count ≤ 256) × (placeOf (now ends) count end < 256) ⌝ }
+    ensures { λ r. ⌜ record { count = r; ends = now (ends .exit); lates = now (lates .exit) } ≡ putPair (record { count = count; ends = now (ends .entry); lates = now (lates .entry) }) end late ⌝ }
 {
-    let mut ends = front.ends;
-    let mut lates = front.lates;
-    let k = place_of(&ends, front.count, end);
+    let k = place_of(ends, count, end);
     ends[k] = end;
     lates[k] = late;
-    Front {
-        count: k + 1,
-        ends: ends,
-        lates: lates,
+    k + 1
+}
+
+// A desk on the way and whether block two was taken there, as words of the trail.
+fn words_of(s: picks::Standing, second: bool) -> [u64; 10]
+    ensures { λ r. ⌜ (lib.ListN.length (s .ready) ≡ 5 → r ≡ wordsOf s second) ⌝ }
+{
+    let w = s.ready;
+    [
+        s.desk.minute as u64,
+        s.desk.worst as u64,
+        s.count as u64,
+        s.next as u64,
+        second as u64,
+        w[0],
+        w[1],
+        w[2],
+        w[3],
+        w[4],
+    ]
+}
+
+// The desk that the words hold.
+fn desk_of(w: [u64; 10]) -> picks::Standing
+    requires { ⌜ ((s : Standing) × (second : Bool) × Fits s × (w ≡ wordsOf s second)) ⌝ }
+    ensures { λ r. ⌜ ((s : Standing) (second : Bool) → Fits s → w ≡ wordsOf s second → r ≡ s) ⌝ }
+{
+    picks::Standing {
+        desk: schedule::Desk {
+            minute: w[0] as u32,
+            worst: w[1] as u32,
+        },
+        count: w[2] as usize,
+        next: w[3] as usize,
+        ready: [w[5], w[6], w[7], w[8], w[9]],
+    }
+}
+
+// Blocks from a desk on, each kept on the trail from the place `from` on, until no row is left or a lateness is above the bound.
+fn onward(
+    release: &[u32; 257],
+    length: &[u32; 257],
+    due: &[u32; 257],
+    by: &[u32; 256],
+    n: usize,
+    first: picks::Standing,
+    from: usize,
+    bound: u32,
+    order: &mut [u32; 256],
+    trail: &mut [[u64; 10]; 257],
+) -> Reached
+    requires { ⌜ Limits (columns (now release) (now length) (now due)) ⌝ }
+    requires { ⌜ Tables n (columns (now release) (now length) (now due)) (at (now by)) ⌝ }
+    requires { ⌜ (lib.ListN.length (now order) ≡ 256) × (lib.ListN.length (now trail) ≡ 257) × ((free : ℕ) × Came n (columns (now release) (now length) (now due)) (at (now by)) free bound (now trail) from first) ⌝ }
+    ensures { λ r. ⌜ (lib.ListN.length (now (order .exit)) ≡ 256) × (lib.ListN.length (now (trail .exit)) ≡ 257) ×
+        ((free : ℕ) → Came n (columns (now (release .entry)) (now (length .entry)) (now (due .entry))) (at (now (by .entry))) free bound (now (trail .entry)) from first → Found n (columns (now (release .entry)) (now (length .entry)) (now (due .entry))) (at (now (by .entry))) free bound (now (trail .exit)) r) ⌝ }
+{
+    let mut s = first;
+    let mut d = from;
+    loop {
+        if bound < s.desk.worst {
+            return Reached { depth: d, at: s };
+        }
+        if s.count == n {
+            return Reached { depth: d, at: s };
+        }
+        let b = next_block(release, length, due, by, n, s, bound, order);
+        trail[d] = words_of(s, b.second);
+        s = b.after;
+        d += 1;
+    }
+}
+
+// The blocks before the last one that was begun within the bound, and that one: how many they are.
+fn back_to(trail: &[[u64; 10]; 257], depth: usize, bound: u32) -> usize
+    requires { ⌜ depth ≤ 256 ⌝ }
+    ensures { λ r. ⌜ Back (now (trail .entry)) bound depth r ⌝ }
+{
+    let mut k = depth;
+    while k > 0 {
+        if trail[k - 1][1] <= (bound as u64) {
+            return k;
+        }
+        k -= 1;
+    }
+    0
+}
+
+// The search taken up again with a smaller bound: at the first block that holds the worst lateness, with block two in its place.
+// Where that was block two already, or the opening run, no order keeps the bound: the search stays where it came to, above the bound.
+fn resume(
+    release: &[u32; 257],
+    length: &[u32; 257],
+    due: &[u32; 257],
+    by: &[u32; 256],
+    n: usize,
+    last: Reached,
+    bound: u32,
+    order: &mut [u32; 256],
+    trail: &mut [[u64; 10]; 257],
+) -> Reached
+    requires { ⌜ Limits (columns (now release) (now length) (now due)) ⌝ }
+    requires { ⌜ Tables n (columns (now release) (now length) (now due)) (at (now by)) ⌝ }
+    requires { ⌜ (lib.ListN.length (now order) ≡ 256) × (lib.ListN.length (now trail) ≡ 257) × ((free : ℕ) × (before : ℕ) × Lowered n (columns (now release) (now length) (now due)) (at (now by)) free before bound (now trail) last) ⌝ }
+    ensures { λ r. ⌜ (lib.ListN.length (now (order .exit)) ≡ 256) × (lib.ListN.length (now (trail .exit)) ≡ 257) ×
+        ((free before : ℕ) → Lowered n (columns (now (release .entry)) (now (length .entry)) (now (due .entry))) (at (now (by .entry))) free before bound (now (trail .entry)) last → Found n (columns (now (release .entry)) (now (length .entry)) (now (due .entry))) (at (now (by .entry))) free bound (now (trail .exit)) r) ⌝ }
+{
+    let k = back_to(trail, last.depth, bound);
+    if k == 0 {
+        return last;
+    }
+    let w = trail[k - 1];
+    if w[4] != 0 {
+        return last;
+    }
+    let s = desk_of(w);
+    let two = block_two(release, length, due, by, n, s, bound, order);
+    trail[k - 1] = words_of(s, true);
+    onward(release, length, due, by, n, two, k, bound, order, trail)
+}
+
+// What a desk without rows left over answers for a bound: its pair, where its worst lateness is within the bound.
+fn answer(desk: schedule::Desk, bound: u32) -> Planned
+    ensures { λ r. ⌜ r ≡ answerOf desk bound ⌝ }
+{
+    if desk.worst <= bound {
+        return Planned::Kept(desk.minute, desk.worst);
+    }
+    Planned::Unkept
+}
+
+// The list of rows that stand by rank.
+fn list_ranked(
+    release: &[u32; 257],
+    length: &[u32; 257],
+    due: &[u32; 257],
+    by: &[u32; 256],
+    n: usize,
+    free: u32,
+) -> Front
+    requires { ⌜ Limits (columns (now release) (now length) (now due)) ⌝ }
+    requires { ⌜ Tables n (columns (now release) (now length) (now due)) (at (now by)) ⌝ }
+    requires { ⌜ (1 ≤ n) × (free ≤ 10000000) × Agreeing (columns (now release) (now length) (now due)) (countFrom 1 n) ⌝ }
+    ensures { λ r. ⌜ Listed (columns (now (release .entry)) (now (length .entry)) (now (due .entry))) n free r ⌝ }
+{
+    let mut order: [u32; 256] = [0; 256];
+    let mut trail: [[u64; 10]; 257] = [[0; 10]; 257];
+    let mut ends: [u32; 256] = [0; 256];
+    let mut lates: [u32; 256] = [0; 256];
+    let mut count: usize = 0;
+    let mut bound: u32 = LARGEST_BOUND;
+    let begin = picks::start(release, by, n, free);
+    let first = run_on(release, length, due, by, n, begin, bound, &mut order);
+    let mut last = onward(
+        release,
+        length,
+        due,
+        by,
+        n,
+        first,
+        0,
+        bound,
+        &mut order,
+        &mut trail,
+    );
+    loop {
+        let Planned::Kept(end, late) = answer(last.at.desk, bound) else {
+            return Front {
+                count: count,
+                ends: ends,
+                lates: lates,
+            };
+        };
+        count = put_pair(&mut ends, &mut lates, count, end, late);
+        bound = late - 1;
+        last = resume(
+            release,
+            length,
+            due,
+            by,
+            n,
+            last,
+            bound,
+            &mut order,
+            &mut trail,
+        );
     }
 }
 
@@ -406,17 +496,10 @@ pub fn list_plans(
     requires { ⌜ (1 ≤ n) × (n ≤ 256) × (free ≤ 10000000) × Agreeing (columns (now release) (now length) (now due)) (countFrom 1 n) ⌝ }
     ensures { λ r. ⌜ Listed (columns (now (release .entry)) (now (length .entry)) (now (due .entry))) n free r ⌝ }
 {
-    let mut front = Front {
-        count: 0,
-        ends: [0; 256],
-        lates: [0; 256],
-    };
-    let mut bound: u32 = LARGEST_BOUND;
-    loop {
-        let Planned::Kept(end, late) = pair_for(release, length, due, n, free, bound) else {
-            return front;
-        };
-        front = put_pair(front, end, late);
-        bound = late - 1;
-    }
+    let rows = ranks::rows_by_rank(release, length, due, n);
+    let releases = ranks::by_rank(release, &rows, n);
+    let lengths = ranks::by_rank(length, &rows, n);
+    let dues = ranks::by_rank(due, &rows, n);
+    let by = ranks::rows_by_release(&releases, n);
+    list_ranked(&releases, &lengths, &dues, &by, n, free)
 }

@@ -10,7 +10,7 @@ use Rattle.schedule.specs.Desk.{Pair}
 use Rattle.schedule.specs.Promise.{Agreeing}
 use Rattle.schedule.specs.Offset.{lowered}
 use Rattle.core.specs.declared.Front.{Front}
-use Rattle.core.specs.Columns.{Limits}
+use Rattle.schedule.specs.Columns.{Limits}
 use Rattle.rows.specs.declared.Columns.{Columns}
 use Rattle.rows.specs.Apart.{jobsOf}
 

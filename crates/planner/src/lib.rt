@@ -10,7 +10,7 @@ ghost use Rattle.schedule.specs.declared.Row.{Row};
 ghost use Rattle.schedule.specs.Rows.{countFrom};
 ghost use Rattle.schedule.specs.Plans.{beats, plans, firstBeating};
 ghost use Rattle.schedule.specs.Offset.{lowered, deskAt};
-ghost use Rattle.core.specs.Columns.{Limits};
+ghost use Rattle.schedule.specs.Columns.{Limits};
 ghost use Rattle.core.specs.Taking.{deskThrough};
 ghost use Rattle.rows.specs.Apart.{jobsOf, Apart};
 ghost use Rattle.planner.specs.Posting.{entryTests, postingTests};

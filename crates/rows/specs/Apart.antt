@@ -7,7 +7,7 @@ use lib.ListN.{length}
 use Rattle.schedule.specs.declared.Row.{Row}
 use Rattle.theory.specs.Jobs.{Job}
 use Rattle.schedule.specs.Rows.{job}
-use Rattle.core.specs.Columns.{columns}
+use Rattle.schedule.specs.Columns.{columns}
 use Rattle.rows.specs.declared.Columns.{Columns}
 
 -- What planning sees of each row number, in columns.

@@ -15,3 +15,6 @@ pub mod Listing
 pub mod Loop
 pub mod Promise
 pub mod Ranges
+pub mod Matches
+pub mod RankPicks
+pub mod Renumbered

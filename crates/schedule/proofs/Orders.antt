@@ -56,6 +56,13 @@ count-mem i (j ∷ js) h = go (eqb i j) (eqb→eq i j) h (count-mem i js)
     go true e l f = List·Memᴰ·head (e tt)
     go false e l f = List·Memᴰ·tail (f (omega arith))
 
+one-T : (b : Bool) → T b → one b ≡ 1
+one-T true t = refl
+one-T false t = absurd t
+
+pub mem-count : (i : ℕ) (left : List ℕ) → List·Memᴰ i left → 0 < count i left
+mem-count i left m = omega (arith, count-without i left m i, one-T (eqb i i) (eqb-refl i))
+
 module _ {A B : Type 0} where
   flat-make : (f : A → List B) (l : List A) (a : A) (b : B) → List·Memᴰ a l → List·Memᴰ b (f a) → List·Memᴰ b (flatMap f l)
   unfolding flatMap
@@ -116,10 +123,6 @@ orders-same (suc n) left o l m i =
     let w : count i left ≡ one (eqb i (c .0)) + count i (without (c .0) left) = count-without (c .0) left (c .2) i in
     ap (count i) (c .4) ∙ omega arith
 
-one-T : (b : Bool) → T b → one b ≡ 1
-one-T true t = refl
-one-T false t = absurd t
-
 -- and each list that does is an order.
 pub same-orders : (n : ℕ) (left o : List ℕ) → length left ≡ n → length o ≡ n → Same o left → List·Memᴰ o (ordersOf n left)
 unfolding count ordersOf
@@ -155,7 +158,7 @@ perm-all P (List·Permᴰ·trans p q) h i m = perm-all P p (perm-all P q h) i m
 pub perm-orders : (n : ℕ) (left o : List ℕ) → length left ≡ n → List·Permᴰ o left → List·Memᴰ o (ordersOf n left)
 perm-orders n left o l p = let r = perm-count p in same-orders n left o l (r .0 ∙ l) (r .1)
 
-perm-without : (i : ℕ) (left : List ℕ) → List·Memᴰ i left → List·Permᴰ (i ∷ without i left) left
+pub perm-without : (i : ℕ) (left : List ℕ) → List·Memᴰ i left → List·Permᴰ (i ∷ without i left) left
 unfolding without
 perm-without i [] m = absurd (List·Memᴰ·not-nil m)
 perm-without i (j ∷ js) m = go (eqb i j) refl (List·Memᴰ·cases-cons m) (perm-without i js)
@@ -195,6 +198,11 @@ pub takes-append : (a b left : List ℕ) → Takes a left → Takes b (withoutAl
 unfolding withoutAll
 takes-append [] b left h k = k
 takes-append (i ∷ is) b left h k = (h .0, takes-append is b (without i left) (h .1) k)
+
+pub takes-mem : (a left : List ℕ) → Takes a left → (i : ℕ) → List·Memᴰ i a → List·Memᴰ i left
+takes-mem [] left h i m = absurd (List·Memᴰ·not-nil m)
+takes-mem (j ∷ js) left h i (List·Memᴰ·head e) = subst (λ (k : ℕ). List·Memᴰ k left) (sym e) (h .0)
+takes-mem (j ∷ js) left h i (List·Memᴰ·tail m) = mem-without j left (takes-mem js (without j left) (h .1) i m)
 
 pub takes-length : (a left : List ℕ) → Takes a left → length left ≡ length a + length (withoutAll a left)
 unfolding withoutAll

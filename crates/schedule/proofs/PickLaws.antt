@@ -12,7 +12,7 @@ use Rattle.schedule.specs.Picks.{ahead, earliestEnd, outranks, before, l
 use Rattle.schedule.proofs.Tests.{Compared, compared}
 
 -- A comparison with what follows it: P where it says yes, Q where it says no.
-ahead-says : {P Q : Type 0} (a b : ℕ) (next : Bool) → (a < b → P) → (b < a → Q) → (a ≡ b → (T next → P) × (T (not next) → Q)) →
+pub ahead-says : {P Q : Type 0} (a b : ℕ) (next : Bool) → (a < b → P) → (b < a → Q) → (a ≡ b → (T next → P) × (T (not next) → Q)) →
     (T (ahead (compare a b) next) → P) × (T (not (ahead (compare a b) next)) → Q)
 ahead-says {P} {Q} a b next less more same = go (compare a b) (compared a b)
   where
@@ -89,6 +89,15 @@ module _ (job : ℕ → Job) where
       ends : ready (job k) t ≤ ready (job i) t → job k .due ≤ job i .due → earliestEnd (job k) ≤ earliestEnd (job i) →
           (earliestEnd (job j) ≤ earliestEnd (job i)) × (earliestEnd (job k) ≤ earliestEnd (job j))
       ends h g f = (omega (arith, b .by-end (readies h .1) (dues h g .1)), omega (arith, a .by-end (readies h .0) (dues h g .0)))
+
+  -- Two rows, each ahead of the other, are one.
+  pub ahead-same : {t i j : ℕ} → Ahead t i j → Ahead t j i → i ≡ j
+  ahead-same {t} {i} {j} a b =
+      let dues : job i .due ≤ job j .due = a .by-due (b .by-ready) in
+      let dues′ : job j .due ≤ job i .due = b .by-due (a .by-ready) in
+      let ends : earliestEnd (job i) ≤ earliestEnd (job j) = a .by-end (b .by-ready) dues′ in
+      let ends′ : earliestEnd (job j) ≤ earliestEnd (job i) = b .by-end (a .by-ready) dues in
+      omega (arith, a .by-row (b .by-ready) dues′ ends′, b .by-row (a .by-ready) dues ends)
 
   -- The test says which of two rows is ahead.
   module _ (t i j : ℕ) where

@@ -108,12 +108,12 @@ module _ (job : ℕ → Job) where
   Halted t [] = Unit {0}
   Halted t (i ∷ is) = decided job t (i ∷ is) ≡ false
 
-  record Ran (t : ℕ) (left order : List ℕ) : Type 0 where
-    runs : Run (jobs job left) t (jobs job order) (jobs job (withoutAll order left))
-    halts : Halted (endOf job t order) (withoutAll order left)
-    takes : Takes order left
+  pub record Ran (t : ℕ) (left order : List ℕ) : Type 0 where
+    pub runs : Run (jobs job left) t (jobs job order) (jobs job (withoutAll order left))
+    pub halts : Halted (endOf job t order) (withoutAll order left)
+    pub takes : Takes order left
 
-  ran : (n t : ℕ) (left : List ℕ) → length left ≤ n → Ran t left (runFor job n t left)
+  pub ran : (n t : ℕ) (left : List ℕ) → length left ≤ n → Ran t left (runFor job n t left)
   unfolding withoutAll others endOf
   ran zero t [] l = unfold runFor in record { runs = halt empty; halts = tt; takes = tt }
   ran zero t (i ∷ is) l = let z : ⊥ = omega arith in absurd z
@@ -166,14 +166,14 @@ module _ (job : ℕ → Job) (y : ℤ) where
   }
 
   -- A block from an undecided desk: its first row, and the run from there.
-  record Block (i t : ℕ) (left : List ℕ) : Type 0 where
-    runs : Run (jobs job (without i left)) (finish (job i) t) (jobs job (run job (finish (job i) t) (without i left)))
+  pub record Block (i t : ℕ) (left : List ℕ) : Type 0 where
+    pub runs : Run (jobs job (without i left)) (finish (job i) t) (jobs job (run job (finish (job i) t) (without i left)))
         (jobs job (withoutAll (block job i t left) left))
-    halts : Halted job (endOf job t (block job i t left)) (withoutAll (block job i t left) left)
-    takes : Takes (block job i t left) left
-    fewer : length (withoutAll (block job i t left) left) < length left
+    pub halts : Halted job (endOf job t (block job i t left)) (withoutAll (block job i t left) left)
+    pub takes : Takes (block job i t left) left
+    pub fewer : length (withoutAll (block job i t left) left) < length left
 
-  block-is : (i t : ℕ) (left : List ℕ) → List·Memᴰ i left → Block i t left
+  pub block-is : (i t : ℕ) (left : List ℕ) → List·Memᴰ i left → Block i t left
   unfolding block run withoutAll endOf
   block-is i t left m =
       let r = ran job (length (without i left)) (finish (job i) t) (without i left) (omega arith) in
@@ -181,17 +181,17 @@ module _ (job : ℕ → Job) (y : ℤ) where
 
   -- The three ways on, at an undecided desk.
   module _ (n t i : ℕ) (is : List ℕ) where
-    blocks-one : keeps job y t (blockOne job t (i ∷ is)) ≡ true →
+    pub blocks-one : keeps job y t (blockOne job t (i ∷ is)) ≡ true →
         blocksFor job (suc n) y t (i ∷ is) ≡ joined (blockOne job t (i ∷ is)) (blocksFor job n y (endOf job t (blockOne job t (i ∷ is))) (withoutAll (blockOne job t (i ∷ is)) (i ∷ is)))
     unfolding blocksFor
     blocks-one h = rw (h, blocksFor)
 
-    blocks-two : keeps job y t (blockOne job t (i ∷ is)) ≡ false → keeps job y t (blockTwo job t (i ∷ is)) ≡ true →
+    pub blocks-two : keeps job y t (blockOne job t (i ∷ is)) ≡ false → keeps job y t (blockTwo job t (i ∷ is)) ≡ true →
         blocksFor job (suc n) y t (i ∷ is) ≡ joined (blockTwo job t (i ∷ is)) (blocksFor job n y (endOf job t (blockTwo job t (i ∷ is))) (withoutAll (blockTwo job t (i ∷ is)) (i ∷ is)))
     unfolding blocksFor
     blocks-two h k = rw (h, k, blocksFor)
 
-    blocks-none : keeps job y t (blockOne job t (i ∷ is)) ≡ false → keeps job y t (blockTwo job t (i ∷ is)) ≡ false → blocksFor job (suc n) y t (i ∷ is) ≡ none
+    pub blocks-none : keeps job y t (blockOne job t (i ∷ is)) ≡ false → keeps job y t (blockTwo job t (i ∷ is)) ≡ false → blocksFor job (suc n) y t (i ∷ is) ≡ none
     unfolding blocksFor
     blocks-none h k = rw (h, k, blocksFor)
 

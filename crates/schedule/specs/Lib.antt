@@ -5,3 +5,5 @@ pub mod Plans
 pub mod Promise
 pub mod Ranges
 pub mod Offset
+pub mod Columns
+pub mod Ranks

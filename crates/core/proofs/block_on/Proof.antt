@@ -1,31 +1,44 @@
--- `block_on` meets its contract: it takes a row, and then the run from there.
+-- `block_on` meets its contract: the row, then the run from there.
 -- Assumes nothing.
-use Rattle.core.specs.Columns.{columns}
-use Rattle.core.proofs.Steps.{may-take, taken-going}
-use Rattle.core.proofs.Blocks.{block-after}
+use native.Mathlib.Omega.{arith}
+use lib.ListN.{length-set}
+use Rattle.core.proofs.Picked.{row-high, room}
+use Rattle.core.proofs.Steps.{block-ran}
 use Rattle.core.proofs.block_on.Statement.{statement}
 use Rattle.core.proofs.block_on.Tie as tie
 
-take-row-requires : tie.Need-take-row-requires
-take-row-requires c κs =
-    let a = c .args in
-    let job = columns (a .release .now) (a .length .now) (a .due .now) in
+cast-order : tie.Need-cast-order
+cast-order c =
     let p = c .pre .1 in
-    (c .pre .0, may-take job (a .n) (p .0) (a .s) (p .1) (a .i) (p .2))
+    record { fits = omega (arith, row-high _ _ _ (p .0) _ _ (p .1 .0 .1) _ (p .1 .0 .2)) }
+
+mul-order : tie.Need-mul-order
+mul-order c =
+    let p = c .pre .1 in
+    record { fits = omega (arith, room _ _ _ (p .0) _ _ (p .1 .0 .1) _ (p .1 .0 .2)) }
+
+element-write-order : tie.Need-element-write-order
+element-write-order c =
+    let p = c .pre .1 in
+    room _ _ _ (p .0) _ _ (p .1 .0 .1) _ (p .1 .0 .2)
+
+take-requires : tie.Need-take-requires
+take-requires c κs =
+    let p = c .pre in
+    (p .0, (p .1 .0, (_, p .1 .1 .0 .1, p .1 .1 .0 .2)))
 
 run-on-requires : tie.Need-run-on-requires
 run-on-requires c κs =
-    let a = c .before .args in
-    let job = columns (a .release .now) (a .length .now) (a .due .now) in
-    let p = c .before .pre .1 in
-    (c .before .pre .0, (p .0, taken-going job (a .n) (p .0) (a .s) (p .1) (a .i) (p .2) (c .before .pre .0) (c .take-row .result) (c .take-row .ensures)))
+    let p = c .before .before .pre in
+    (p .0, (p .1 .0, ((_, c .before .take .ensures _ (p .1 .1 .0 .1) (p .1 .1 .0 .2) .sits), simp length-set (p .1 .1 .1))))
 
 returns : tie.Need-returns
-returns c =
-    let a = c .before .before .args in
-    let job = columns (a .release .now) (a .length .now) (a .due .now) in
-    let p = c .before .before .pre .1 in
-    block-after job (a .n) (p .0) (a .s) (p .1) (a .i) (p .2) (c .before .take-row .result) (c .run-on .result) (c .before .take-row .ensures) (c .run-on .ensures)
+returns c = λ rest g m.
+    let p = c .before .before .before .pre in
+    let t = c .before .before .take .ensures rest g m in
+    block-ran _ _ _ (p .0) rest _ _ _ _ t (room _ _ _ (p .1 .0) _ _ g _ m) (p .1 .1 .1) _ _ _ (c .run-on .ensures _ (t .sits))
 
 pub block-on-spec : {M : Type 1} → statement M
-block-on-spec = tie.close (tie.spec take-row-requires run-on-requires returns)
+block-on-spec =
+    tie.close
+    (tie.spec cast-order mul-order element-write-order take-requires run-on-requires returns)

@@ -5,7 +5,7 @@ use Prim.Native.Nat.{_-_}
 use native.Mathlib.Omega.{arith}
 use lib.ListN.{getD}
 use lib.ListN as L
-use Rattle.core.specs.Columns.{columns}
+use Rattle.schedule.specs.Columns.{columns}
 use Rattle.core.proofs.Following.{Following, following-first, following-next, following-last, may-follow}
 use Rattle.core.proofs.follow.Statement.{statement}
 use Rattle.core.proofs.follow.Tie as tie

@@ -1,55 +1,45 @@
--- `next_block` meets its contract: it takes block one where that keeps the bound, and otherwise block two.
+-- `next_block` meets its contract: block one, and where a lateness of it is above the bound, block two from the same desk.
 -- Assumes nothing.
-use native.Mathlib.Omega.{arith}
-use Rattle.core.specs.Columns.{columns}
-use Rattle.core.proofs.Steps.{first-pick}
-use Rattle.core.proofs.Blocks.{first-mem, second-is, second-mem, take-one, take-two}
 use Rattle.core.proofs.next_block.Statement.{statement}
 use Rattle.core.proofs.next_block.Tie as tie
+use Rattle.core.proofs.Picked.{first-mem, second-mem, torn-first, torn-second}
+use Rattle.core.proofs.Blocks.{stepped-one, stepped-two}
 
-pick-requires : tie.Need-pick-requires
-pick-requires c κs = (c .before .before .pre .0, (c .before .before .pre .1 .0, c .before .before .pre .1 .1 .marks))
+picks-requires : tie.Need-picks-requires
+picks-requires c κs =
+    let p = c .before .pre in
+    (p .1 .0 .few, (_, _, _, p .1 .0, p .1 .1 .0 .1 .stands))
 
 block-on-requires : tie.Need-block-on-requires
 block-on-requires c κs =
-    let a = c .before .before .before .args in
-    let job = columns (a .release .now) (a .length .now) (a .due .now) in
-    let p = c .before .before .before .pre .1 in
-    (c .before .before .before .pre .0, (p .0, p .1, first-mem job (a .n) (p .0) (a .t5) (p .1) (p .3) (c .pick .result) (c .pick .ensures)))
+    let p = c .before .before .before .pre in
+    let g = p .1 .1 .0 in
+    let q = c .before .picks .ensures _ _ _ (p .1 .0) (g .1 .stands) (g .1 .late) in
+    (p .0, (p .1 .0, ((_, g .1, first-mem _ _ _ (p .1 .0) _ _ (g .1) _ (q .0) (torn-first _ _ _ (p .1 .0) _ _ (g .1) _ _ (q .0) (q .1) (g .2))), p .1 .1 .1)))
 
 returns : tie.Need-returns
-returns c =
-    let a = c .before .before .before .before .before .before .args in
-    let job = columns (a .release .now) (a .length .now) (a .due .now) in
-    let p = c .before .before .before .before .before .before .pre .1 in
-    take-one job (a .n) (p .0) (a .t5) (p .1) (c .before .before .before .before .before .before .pre .0) (a .bound) (p .2) (c .before .before .before .pick .result) (first-pick job (a .n) (p .0) (a .t5) (p .1) (c .before .before .before .pick .result) (c .before .before .before .pick .ensures)) (c .before .before .block-on .result) (c .before .before .block-on .ensures) (omega arith)
-
-pick-requires-2 : tie.Need-pick-requires-2
-pick-requires-2 c κs = (c .before .before .before .before .before .before .before .before .pre .0, (c .before .before .before .before .before .before .before .before .pre .1 .0, c .before .before .before .before .before .before .before .before .pre .1 .1 .marks))
+returns c = λ rest g torn.
+    let p = c .before .before .before .before .before .before .pre in
+    let q = c .before .before .before .before .picks .ensures _ _ _ (p .1 .0) (g .stands) (g .late) in
+    let m = first-mem _ _ _ (p .1 .0) _ _ g _ (q .0) (torn-first _ _ _ (p .1 .0) _ _ g _ _ (q .0) (q .1) torn) in
+    stepped-one _ _ _ _ rest _ _ _ (q .0) _ _ (c .before .before .block-on .ensures rest g m) (c .if1 .taken)
 
 block-on-requires-2 : tie.Need-block-on-requires-2
 block-on-requires-2 c κs =
-    let a = c .before .before .before .before .before .before .before .before .before .args in
-    let job = columns (a .release .now) (a .length .now) (a .due .now) in
-    let p = c .before .before .before .before .before .before .before .before .before .pre .1 in
-    (c .before .before .before .before .before .before .before .before .before .pre .0, (p .0, p .1, second-mem job (a .n) (p .0) (a .t5) (p .1) (p .3) (c .before .before .before .before .before .before .pick .result) (c .before .before .before .before .before .before .pick .ensures) (c .pick2 .result) (c .pick2 .ensures)))
+    let p = c .before .before .before .before .before .before .before .pre in
+    let g = p .1 .1 .0 in
+    let q = c .before .before .before .before .before .picks .ensures _ _ _ (p .1 .0) (g .1 .stands) (g .1 .late) in
+    let m = first-mem _ _ _ (p .1 .0) _ _ (g .1) _ (q .0) (torn-first _ _ _ (p .1 .0) _ _ (g .1) _ _ (q .0) (q .1) (g .2)) in
+    (p .0, (p .1 .0, ((_, g .1, second-mem _ _ _ (p .1 .0) _ _ (g .1) _ (q .1) (torn-second _ _ _ (p .1 .0) _ _ (g .1) _ _ (q .0) (q .1) (g .2))), c .before .before .before .block-on .ensures _ (g .1) m .1 .places)))
 
 returns-2 : tie.Need-returns-2
-returns-2 c =
-    let a = c .before .before .before .before .before .before .before .before .before .before .args in
-    let job = columns (a .release .now) (a .length .now) (a .due .now) in
-    let p = c .before .before .before .before .before .before .before .before .before .before .pre .1 in
-    let first = first-pick job (a .n) (p .0) (a .t5) (p .1) (c .before .before .before .before .before .before .before .pick .result) (c .before .before .before .before .before .before .before .pick .ensures) in
-    let second = second-is job (a .n) (p .0) (a .t5) (p .1) (p .3) (c .before .before .before .before .before .before .before .pick .result) (c .before .before .before .before .before .before .before .pick .ensures) (c .before .pick2 .result) (c .before .pick2 .ensures) in
-    take-two job (a .n) (p .0) (a .t5) (p .1) (c .before .before .before .before .before .before .before .before .before .before .pre .0) (a .bound) (p .2) (c .before .before .before .before .before .before .before .pick .result) first (c .before .before .before .before .before .before .block-on .result) (c .before .before .before .before .before .before .block-on .ensures) (omega arith) (c .before .pick2 .result) second (c .block-on2 .result) (c .block-on2 .ensures)
+returns-2 c = λ rest g torn.
+    let p = c .before .before .before .before .before .before .before .before .pre in
+    let q = c .before .before .before .before .before .before .picks .ensures _ _ _ (p .1 .0) (g .stands) (g .late) in
+    let m = first-mem _ _ _ (p .1 .0) _ _ g _ (q .0) (torn-first _ _ _ (p .1 .0) _ _ g _ _ (q .0) (q .1) torn) in
+    let k = second-mem _ _ _ (p .1 .0) _ _ g _ (q .1) (torn-second _ _ _ (p .1 .0) _ _ g _ _ (q .0) (q .1) torn) in
+    stepped-two _ _ _ _ rest _ _ _ (q .0) _ _ (c .before .before .before .before .block-on .ensures rest g m) (c .before .before .if1 .left) _ (q .1) _ _ (c .block-on2 .ensures rest g k)
 
 pub next-block-spec : {M : Type 1} → statement M
 next-block-spec =
-    tie.close
-    (tie.spec
-    pick-requires
-    block-on-requires
-    returns
-    pick-requires-2
-    block-on-requires-2
-    returns-2)
+    tie.close (tie.spec picks-requires block-on-requires returns block-on-requires-2 returns-2)

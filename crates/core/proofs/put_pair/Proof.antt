@@ -12,24 +12,24 @@ place-of-requires : tie.Need-place-of-requires
 place-of-requires c κs = search needs
 
 mul-ends : tie.Need-mul-ends
-mul-ends c = omega (arith, c .place-of .ensures, c .before .before .before .before .pre .1)
+mul-ends c = omega (arith, c .place-of .ensures, c .before .before .pre .1)
 
-array-write-ends : tie.Need-array-write-ends
-array-write-ends c = omega (arith, c .place-of .ensures, c .before .before .before .before .pre .1)
+element-write-ends : tie.Need-element-write-ends
+element-write-ends c = omega (arith, c .place-of .ensures, c .before .before .pre .1)
 
 mul-lates : tie.Need-mul-lates
-mul-lates c = omega (arith, c .place-of .ensures, c .before .before .before .before .pre .1)
+mul-lates c = omega (arith, c .place-of .ensures, c .before .before .pre .1)
 
-array-write-lates : tie.Need-array-write-lates
-array-write-lates c = omega (arith, c .place-of .ensures, c .before .before .before .before .pre .1)
+element-write-lates : tie.Need-element-write-lates
+element-write-lates c = omega (arith, c .place-of .ensures, c .before .before .pre .1)
 
-add-t8 : tie.Need-add-t8
-add-t8 c = omega (arith, c .place-of .ensures, c .before .before .before .before .pre .1)
+add-result : tie.Need-add-result
+add-result c = omega (arith, c .place-of .ensures, c .before .before .pre .1)
 
 returns : tie.Need-returns
 returns c =
-    let a = c .before .before .before .before .args in
-    ap (λ (k : ℕ). record { count = k + 1; ends = set (a .front .ends) k (a .end); lates = set (a .front .lates) k (a .late) }) (c .place-of .ensures)
+    let a = c .before .before .args in
+    ap (λ (k : ℕ). record { count = k + 1; ends = set (a .ends .now) k (a .end); lates = set (a .lates .now) k (a .late) }) (c .place-of .ensures)
 
 pub put-pair-spec : {M : Type 1} → statement M
 put-pair-spec =
@@ -37,8 +37,8 @@ put-pair-spec =
     (tie.spec
     place-of-requires
     mul-ends
-    array-write-ends
+    element-write-ends
     mul-lates
-    array-write-lates
-    add-t8
+    element-write-lates
+    add-result
     returns)

@@ -1,81 +1,107 @@
--- `run_on` meets its contract: from each state the run leads where it leads from the beginning. Each turn takes a row.
+-- `run_on` meets its contract: what the run from the desk leads to is what the run from the beginning leads to. Each turn takes a row.
 -- Assumes nothing.
-use Prim.Native.Nat.{_-_}
-use mathlib.Core.Path.{refl}
+use Prim.Native.Nat.{ℕ, _-_, _≤_}
+use mathlib.Core.List.{List}
+use mathlib.Core.Path.{_≡_, refl, sym, ap, _∙_}
 use native.Mathlib.Omega.{arith}
 use borrow.Author.Tests.{not-true, not-false}
-use Rattle.core.specs.Columns.{columns}
-use Rattle.core.proofs.Steps.{Toward, pick-high, picked, none-left, may-take, taken-less, undecided, goes-on, ended-none, ended-undecided}
+use Rattle.schedule.specs.Columns.{at, columns}
+use Rattle.picks.specs.Standing.{Sits}
 use Rattle.core.proofs.run_on.Statement.{statement}
 use Rattle.core.proofs.run_on.Tie as tie
+use Rattle.core.proofs.Steps.{Toward, toward-first, ran-over, ran-none, ran-torn, toward-next, toward-less}
+use Rattle.core.proofs.Picked.{row-high, room, none-left, first-mem, first-within, second-within, deciding}
 
 abbrev Inv-loop : tie.InvT-loop
-Inv-loop release length due n s₀ s = Toward (columns release length due) n s₀ s
+Inv-loop release length due by n bound order₀ s₀ order s = (all : List ℕ) → Sits n (columns release length due) (at by) all s₀ → Toward n (columns release length due) (at by) all s₀ order₀ s order
 
 abbrev μ-loop : tie.MeasureT-loop
-μ-loop release length due n s₀ s = n - s .count
+μ-loop release length due by n bound order₀ s₀ order s = n - s .count
 
 loop-holds : tie.Need-loop-holds Inv-loop μ-loop
-loop-holds c = record { going = c .pre .1 .1; state = refl; rows = refl }
-
-pick-requires : tie.Need-pick-requires Inv-loop μ-loop
-pick-requires c κs = (c .before .before .before .pre .0, (c .before .before .before .pre .1 .0, c .before .before .loop .inv .going .marks))
+loop-holds c = λ all g. toward-first _ _ _ all _ _ g (c .pre .1 .1 .1)
 
 returns : tie.Need-returns Inv-loop μ-loop
-returns c =
-    let a = c .before .before .before .before .before .args in
-    let job = columns (a .release .now) (a .length .now) (a .due .now) in
-    let l = c .before .before .before .before .loop in
-    ended-none job (a .n) (a .begin) (l .s) (l .inv) (none-left job (a .n) (c .before .before .before .before .before .pre .1 .0) (l .s) (l .inv .going) (c .before .pick .result) (c .before .pick .ensures) (c .if1 .taken))
+returns c = λ all g.
+    ran-over _ _ _ (c .before .before .before .pre .0) all _ _ _ _ (c .before .before .loop .inv all g) _ (c .if1 .taken)
 
-pick-requires-2 : tie.Need-pick-requires-2 Inv-loop μ-loop
-pick-requires-2 c κs = (c .before .before .before .before .before .before .before .pre .0, (c .before .before .before .before .before .before .before .pre .1 .0, c .before .before .before .before .before .before .loop .inv .going .marks))
+picks-requires : tie.Need-picks-requires Inv-loop μ-loop
+picks-requires c κs =
+    let p = c .before .before .before .before .pre in
+    let o = c .before .before .before .loop .inv (c .before .before .before .before .pre .1 .1 .0 .0) (c .before .before .before .before .pre .1 .1 .0 .1) in
+    (p .1 .0 .few, (_, _, _, p .1 .0, o .sits .stands))
+
+returns-2 : tie.Need-returns-2 Inv-loop μ-loop
+returns-2 c = λ all g.
+    let p = c .before .before .before .before .before .before .pre in
+    let o = c .before .before .before .before .before .loop .inv all g in
+    let q = c .before .picks .ensures _ _ _ (p .1 .0) (o .sits .stands) (o .sits .late) in
+    ran-none _ _ _ (p .0) all _ _ _ _ o (none-left _ _ _ (p .1 .0) _ _ (o .sits) _ (q .0) (c .if2 .taken)) _
 
 decided-by-requires : tie.Need-decided-by-requires Inv-loop μ-loop
 decided-by-requires c κs =
-    let a = c .before .before .before .before .before .before .before .before .args in
-    let job = columns (a .release .now) (a .length .now) (a .due .now) in
-    let t = c .before .before .before .before .before .before .before .loop .s .desk .minute in
-    let i = pick-high job t (c .before .before .before .before .pick .result) (a .n) _ (c .before .before .before .before .pick .ensures) in
-    let j = pick-high job t (c .pick2 .result) (a .n) _ (c .pick2 .ensures) in
-    (omega arith, omega arith)
+    let p = c .before .before .before .before .before .before .pre in
+    let o = c .before .before .before .before .before .loop .inv (c .before .before .before .before .before .before .pre .1 .1 .0 .0) (c .before .before .before .before .before .before .pre .1 .1 .0 .1) in
+    let q = c .before .picks .ensures _ _ _ (p .1 .0) (o .sits .stands) (o .sits .late) in
+    (omega (arith, first-within _ _ _ (p .1 .0) _ _ (o .sits) _ (q .0)), omega (arith, second-within _ _ _ (p .1 .0) _ _ (o .sits) _ (q .1)))
 
-returns-2 : tie.Need-returns-2 Inv-loop μ-loop
-returns-2 c =
-    let a = c .before .before .before .before .before .before .before .before .before .before .args in
-    let job = columns (a .release .now) (a .length .now) (a .due .now) in
-    let l = c .before .before .before .before .before .before .before .before .before .loop in
-    let small = c .before .before .before .before .before .before .before .before .before .before .pre .1 .0 in
-    let m = picked job (a .n) small (l .s) (l .inv .going) (c .before .before .before .before .before .before .pick .result) (c .before .before .before .before .before .before .pick .ensures) (c .before .before .before .before .before .if1 .left) in
-    ended-undecided job (a .n) (a .begin) (l .s) (l .inv)
-    (undecided job (a .n) small (l .s) (l .inv .going) (c .before .before .before .before .before .before .pick .result) (c .before .before .before .before .before .before .pick .ensures) m (c .before .before .pick2 .result) (c .before .before .pick2 .ensures) (c .before .decided-by .result) (c .before .decided-by .ensures) (not-true _ (c .if2 .taken)))
+returns-3 : tie.Need-returns-3 Inv-loop μ-loop
+returns-3 c = λ all g.
+    let p = c .before .before .before .before .before .before .before .before .pre in
+    let o = c .before .before .before .before .before .before .before .loop .inv all g in
+    let q = c .before .before .before .picks .ensures _ _ _ (p .1 .0) (o .sits .stands) (o .sits .late) in
+    let d = deciding _ _ _ (p .1 .0) _ _ (o .sits) _ _ (q .0) (q .1) _ (c .before .decided-by .ensures) (c .before .before .if2 .left) in
+    ran-torn _ _ _ (p .0) all _ _ _ _ o (sym d ∙ not-true _ (c .if3 .taken)) _
 
-take-row-requires : tie.Need-take-row-requires Inv-loop μ-loop
-take-row-requires c κs =
-    let a = c .before .before .before .before .before .before .before .before .before .before .args in
-    let job = columns (a .release .now) (a .length .now) (a .due .now) in
-    let l = c .before .before .before .before .before .before .before .before .before .loop in
-    let small = c .before .before .before .before .before .before .before .before .before .before .pre .1 .0 in
-    let m = picked job (a .n) small (l .s) (l .inv .going) (c .before .before .before .before .before .before .pick .result) (c .before .before .before .before .before .before .pick .ensures) (c .before .before .before .before .before .if1 .left) in
-    (c .before .before .before .before .before .before .before .before .before .before .pre .0, may-take job (a .n) small (l .s) (l .inv .going) (c .before .before .before .before .before .before .pick .result) m)
+cast-order : tie.Need-cast-order Inv-loop μ-loop
+cast-order c =
+    let p = c .before .before .before .before .before .before .before .before .pre in
+    let o = c .before .before .before .before .before .before .before .loop .inv (c .before .before .before .before .before .before .before .before .pre .1 .1 .0 .0) (c .before .before .before .before .before .before .before .before .pre .1 .1 .0 .1) in
+    let q = c .before .before .before .picks .ensures _ _ _ (p .1 .0) (o .sits .stands) (o .sits .late) in
+    let m = first-mem _ _ _ (p .1 .0) _ _ (o .sits) _ (q .0) (c .before .before .if2 .left) in
+    record { fits = omega (arith, row-high _ _ _ (p .1 .0) _ _ (o .sits) _ m) }
+
+mul-order : tie.Need-mul-order Inv-loop μ-loop
+mul-order c =
+    let p = c .before .before .before .before .before .before .before .before .pre in
+    let o = c .before .before .before .before .before .before .before .loop .inv (c .before .before .before .before .before .before .before .before .pre .1 .1 .0 .0) (c .before .before .before .before .before .before .before .before .pre .1 .1 .0 .1) in
+    let q = c .before .before .before .picks .ensures _ _ _ (p .1 .0) (o .sits .stands) (o .sits .late) in
+    let m = first-mem _ _ _ (p .1 .0) _ _ (o .sits) _ (q .0) (c .before .before .if2 .left) in
+    record { fits = omega (arith, room _ _ _ (p .1 .0) _ _ (o .sits) _ m) }
+
+element-write-order : tie.Need-element-write-order Inv-loop μ-loop
+element-write-order c =
+    let p = c .before .before .before .before .before .before .before .before .pre in
+    let o = c .before .before .before .before .before .before .before .loop .inv (c .before .before .before .before .before .before .before .before .pre .1 .1 .0 .0) (c .before .before .before .before .before .before .before .before .pre .1 .1 .0 .1) in
+    let q = c .before .before .before .picks .ensures _ _ _ (p .1 .0) (o .sits .stands) (o .sits .late) in
+    let m = first-mem _ _ _ (p .1 .0) _ _ (o .sits) _ (q .0) (c .before .before .if2 .left) in
+    room _ _ _ (p .1 .0) _ _ (o .sits) _ m
+
+take-requires : tie.Need-take-requires Inv-loop μ-loop
+take-requires c κs =
+    let p = c .before .before .before .before .before .before .before .before .pre in
+    let o = c .before .before .before .before .before .before .before .loop .inv (c .before .before .before .before .before .before .before .before .pre .1 .1 .0 .0) (c .before .before .before .before .before .before .before .before .pre .1 .1 .0 .1) in
+    let q = c .before .before .before .picks .ensures _ _ _ (p .1 .0) (o .sits .stands) (o .sits .late) in
+    let m = first-mem _ _ _ (p .1 .0) _ _ (o .sits) _ (q .0) (c .before .before .if2 .left) in
+    (p .0, (p .1 .0, (_, o .sits, m)))
 
 loop-less : tie.Need-loop-less Inv-loop μ-loop
 loop-less c =
-    let a = c .before .before .before .before .before .before .before .before .before .before .before .args in
-    let job = columns (a .release .now) (a .length .now) (a .due .now) in
-    let l = c .before .before .before .before .before .before .before .before .before .before .loop in
-    let small = c .before .before .before .before .before .before .before .before .before .before .before .pre .1 .0 in
-    let m = picked job (a .n) small (l .s) (l .inv .going) (c .before .before .before .before .before .before .before .pick .result) (c .before .before .before .before .before .before .before .pick .ensures) (c .before .before .before .before .before .before .if1 .left) in
-    taken-less job (a .n) small (l .s) (l .inv .going) (c .before .before .before .before .before .before .before .pick .result) m (c .take-row .result) (c .take-row .ensures)
+    let p = c .before .before .before .before .before .before .before .before .before .pre in
+    let o = c .before .before .before .before .before .before .before .before .loop .inv (c .before .before .before .before .before .before .before .before .before .pre .1 .1 .0 .0) (c .before .before .before .before .before .before .before .before .before .pre .1 .1 .0 .1) in
+    let q = c .before .before .before .before .picks .ensures _ _ _ (p .1 .0) (o .sits .stands) (o .sits .late) in
+    let m = first-mem _ _ _ (p .1 .0) _ _ (o .sits) _ (q .0) (c .before .before .before .if2 .left) in
+    toward-less _ _ _ (p .0) _ _ _ _ _ o _ (q .0) m _ (c .take .ensures _ (o .sits) m)
 
 loop-again : tie.Need-loop-again Inv-loop μ-loop
-loop-again c =
-    let a = c .before .before .before .before .before .before .before .before .before .before .before .args in
-    let job = columns (a .release .now) (a .length .now) (a .due .now) in
-    let l = c .before .before .before .before .before .before .before .before .before .before .loop in
-    let small = c .before .before .before .before .before .before .before .before .before .before .before .pre .1 .0 in
-    let m = picked job (a .n) small (l .s) (l .inv .going) (c .before .before .before .before .before .before .before .pick .result) (c .before .before .before .before .before .before .before .pick .ensures) (c .before .before .before .before .before .before .if1 .left) in
-    goes-on job (a .n) small (l .s) (l .inv .going) (c .before .before .before .before .before .before .before .pick .result) (c .before .before .before .before .before .before .before .pick .ensures) m (c .before .before .before .pick2 .result) (c .before .before .before .pick2 .ensures) (c .before .before .decided-by .result) (c .before .before .decided-by .ensures) (not-false _ (c .before .if2 .left)) (c .take-row .result) (c .take-row .ensures) (a .begin) (c .before .before .before .before .before .before .before .before .before .before .before .pre .0) (l .inv)
+loop-again c = λ all g.
+    let p = c .before .before .before .before .before .before .before .before .before .pre in
+    let o = c .before .before .before .before .before .before .before .before .loop .inv all g in
+    let q = c .before .before .before .before .picks .ensures _ _ _ (p .1 .0) (o .sits .stands) (o .sits .late) in
+    let z = c .before .before .before .if2 .left in
+    let m = first-mem _ _ _ (p .1 .0) _ _ (o .sits) _ (q .0) z in
+    let d = deciding _ _ _ (p .1 .0) _ _ (o .sits) _ _ (q .0) (q .1) _ (c .before .before .decided-by .ensures) z in
+    toward-next _ _ _ (p .0) all _ _ _ _ o _ (q .0) m _ (c .take .ensures _ (o .sits) m) (sym d ∙ not-false _ (c .before .if3 .left)) (room _ _ _ (p .1 .0) _ _ (o .sits) _ m)
 
 pub run-on-spec : {M : Type 1} → statement M
 run-on-spec =
@@ -84,11 +110,14 @@ run-on-spec =
     Inv-loop
     μ-loop
     loop-holds
-    pick-requires
     returns
-    pick-requires-2
-    decided-by-requires
+    picks-requires
     returns-2
-    take-row-requires
+    decided-by-requires
+    returns-3
+    cast-order
+    mul-order
+    element-write-order
+    take-requires
     loop-less
     loop-again)

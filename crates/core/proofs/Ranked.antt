@@ -1,0 +1,125 @@
+-- Columns in the order of rank: the search over them answers for the rows themselves.
+-- Assumes nothing.
+use Prim.Native.Nat.{ℕ, zero, suc, _≤_, _<_}
+use native.Mathlib.Omega.{arith}
+use native.Mathlib.Nat.{not-suc-le-zero, le-of-suc-le-suc}
+use mathlib.Core.Path.{_≡_, refl, sym, ap, _∙_, subst}
+use mathlib.Core.List.{List, [], _∷_, _++_, map, List·Memᴰ, List·Memᴰ·head, List·Memᴰ·tail}
+use mathlib.Core.Option.{Option, none, some, Option·map}
+use lib.ListN.{length, take, drop, getD, length-map}
+use lib.Seq.{getD-take, length-take-le}
+use Rattle.theory.specs.Jobs.{Job}
+use Rattle.schedule.specs.declared.Desk.{Desk}
+use Rattle.schedule.specs.Rows.{countFrom}
+use Rattle.schedule.specs.Desk.{Pair, endOf, pairOf}
+use Rattle.schedule.specs.Plans.{plans}
+use Rattle.schedule.specs.Promise.{Agreeing}
+use Rattle.schedule.specs.Offset.{raised, lowered, deskAt}
+use Rattle.schedule.specs.Columns.{at, columns, Limits}
+use Rattle.schedule.specs.Ranks.{ByRank, ByRelease}
+use Rattle.schedule.proofs.Renumbered.{in-rank, renumbered, order-rows, pair-renumbered, agreeing, same-plans}
+use Rattle.picks.specs.declared.Standing.{Standing}
+use Rattle.picks.specs.Standing.{Tables}
+use Rattle.core.specs.declared.Front.{Front}
+use Rattle.core.specs.declared.Planned.the-variants.{Kept, Unkept}
+use Rattle.core.specs.Taking.{deskThrough}
+use Rattle.core.specs.Answers.{plannedOf, orderOf, writtenOf, Searched, Ordered, Listed}
+use Rattle.core.proofs.Signs.{through-late, followed-end, followed-raised}
+use Rattle.core.proofs.Lists.{fits}
+
+mem-at : (l : List ℕ) (i : ℕ) → i < length l → List·Memᴰ (getD l i 0) l
+mem-at [] i h = absurd (not-suc-le-zero h)
+mem-at (x ∷ l) zero h = List·Memᴰ·head refl
+mem-at (x ∷ l) (suc i) h = List·Memᴰ·tail (mem-at l i (le-of-suc-le-suc h))
+
+-- A column holds at each rank what the row of that rank has.
+abbrev pub Column : ℕ → List ℕ → List ℕ → List ℕ → Type 0
+Column n rows old new = ((k : ℕ) → 1 ≤ k → k ≤ n → at new k ≡ at old (at rows k)) × ((m : ℕ) → ((k : ℕ) → at old k ≤ m) → (k : ℕ) → at new k ≤ m)
+
+-- The tables that a call makes of its columns: the rows by rank, and the columns in that order.
+pub record Tabled (n : ℕ) (rows release length₀ due release′ length′ due′ : List ℕ) : Type 0 where
+  pub limits : Limits (columns release length₀ due)
+  pub by-rank : ByRank n (columns release length₀ due) (at rows)
+  pub releases : Column n rows release release′
+  pub lengths : Column n rows length₀ length′
+  pub dues : Column n rows due due′
+
+module _ {n : ℕ} {rows release length₀ due release′ length′ due′ : List ℕ} (t : Tabled n rows release length₀ due release′ length′ due′) where
+  abbrev job : ℕ → Job
+  job = columns release length₀ due
+
+  abbrev job′ : ℕ → Job
+  job′ = columns release′ length′ due′
+
+  same : (k : ℕ) → 1 ≤ k → k ≤ n → job′ k ≡ job (at rows k)
+  same k l h = λ x. record { release = t .releases .0 k l h x; length = t .lengths .0 k l h x; due = t .dues .0 k l h x }
+
+  pub limits-ranked : Limits job′
+  limits-ranked = record {
+    releases = t .releases .1 10000000 (t .limits .releases);
+    lengths = t .lengths .1 30000 (t .limits .lengths);
+    dues = t .dues .1 20000000 (t .limits .dues);
+  }
+
+  pub tables : n ≤ 256 → (by : ℕ → ℕ) → ByRelease n job′ by → Tables n job′ by
+  tables few by r = record { few = few; in-rank = in-rank n job job′ (at rows) (t .by-rank) same; by-release = r }
+
+  pub agreeing-ranked : Agreeing job (countFrom 1 n) → Agreeing job′ (countFrom 1 n)
+  agreeing-ranked = agreeing n job job′ (at rows) (t .by-rank) same
+
+  -- The order for a bound.
+  module _ (low : 1 ≤ n) (few : n ≤ 256) (free bound : ℕ) (out : List ℕ) (s : Standing) (order : List ℕ) (g : Searched job′ n free bound s order) where
+    order-is : (x : Option (List ℕ)) → orderOf job′ n free bound ≡ x → orderOf job n free bound ≡ Option·map (map (at rows)) x
+    order-is x e = renumbered n job job′ (at rows) (t .by-rank) same free (lowered bound) ∙ ap (Option·map (map (at rows))) e
+
+    pub ordered-over : bound < s .desk .worst → Ordered job n free bound out Unkept out
+    unfolding plannedOf writtenOf
+    ordered-over h =
+        let e = order-is none (g .over h) in
+        record { answered = ap (plannedOf job free) (sym e); buffer = ap (λ (x : Option (List ℕ)). writtenOf x out) (sym e); bounded = tt }
+
+    module _ (h : s .desk .worst ≤ bound) where
+      abbrev ranks : List ℕ
+      ranks = take n order
+
+      ranks-long : length ranks ≡ n
+      ranks-long = length-take-le n order (omega (arith, g .places))
+
+      ranks-within : (k : ℕ) → List·Memᴰ k ranks → (1 ≤ k) × (k ≤ n)
+      ranks-within = order-rows n job job′ (at rows) (t .by-rank) same free (lowered bound) ranks (g .kept h .0)
+
+      pub ranks-high : (i : ℕ) → i < n → at order i ≤ 256
+      ranks-high i l =
+          let m = ranks-within (getD ranks i 0) (mem-at ranks i (omega (arith, ranks-long))) in
+          omega (arith, m, getD-take n order i 0 l)
+
+      pub ordered-kept : (after : List ℕ) → after ≡ map (at rows) ranks ++ drop n out → Ordered job n free bound out (Kept (s .desk .minute) (s .desk .worst)) after
+      unfolding plannedOf writtenOf
+      ordered-kept after w =
+          let e = order-is (some ranks) (g .kept h .0) in
+          let p : pairOf job free (map (at rows) ranks) ≡ pairOf job′ free ranks = pair-renumbered n job job′ (at rows) (t .by-rank) same free ranks ranks-within in
+          let d = g .kept h .1 in
+          let some-row : 1 ≤ length ranks = omega (arith, ranks-long) in
+          let m : s .desk .minute ≡ endOf job free (map (at rows) ranks) =
+          ap (λ (x : Desk). x .minute) d ∙ (followed-end job′ limits-ranked free ranks ∙ ap (λ (x : Pair). x .end) (sym p)) in
+          let l : s .desk .worst ≡ raised (pairOf job free (map (at rows) ranks) .late) =
+          ap (λ (x : Desk). x .worst) d ∙ (followed-raised job′ limits-ranked free ranks some-row ∙ ap (λ (x : Pair). raised (x .late)) (sym p)) in
+          record {
+            answered = (λ x. Kept (m x) (l x)) ∙ ap (plannedOf job free) (sym e);
+            buffer = w ∙ (ap (λ (k : ℕ). map (at rows) ranks ++ drop k out) (sym (length-map ranks (at rows) ∙ ranks-long)) ∙ ap (λ (x : Option (List ℕ)). writtenOf x out) (sym e));
+            bounded = (omega (arith, ap (λ (x : Desk). x .worst) d, through-late job′ limits-ranked (deskAt free) ranks some-row), h, g .kept h .2);
+          }
+
+  -- The list of plans.
+  pub listed-ranked : 1 ≤ n → n ≤ 256 → (free : ℕ) → free ≤ 10000000 → Agreeing job (countFrom 1 n) → (r : Front) → Listed job′ n free r → Listed job n free r
+  listed-ranked low few free early agrees r g =
+      let e : plans job′ free (countFrom 1 n) ≡ plans job free (countFrom 1 n) =
+      sym (same-plans n job job′ (at rows) (t .by-rank) same free agrees low (fits job n free (t .limits) low few early agrees) (fits job′ n free limits-ranked low few early (agreeing-ranked agrees))) in
+      record {
+        counted = g .counted ∙ ap length e;
+        few = g .few;
+        ends = g .ends ∙ ap (map (λ (p : Pair). p .end)) e;
+        lates = g .lates ∙ ap (map (λ (p : Pair). raised (p .late))) e;
+        end-places = g .end-places;
+        late-places = g .late-places;
+      }

@@ -1,0 +1,9 @@
+pub mod Bits
+pub mod Sets
+pub mod Rests
+pub mod Firsts
+pub mod Standings
+pub mod Fronts
+pub mod Advances
+pub mod Starts
+pub mod Takes

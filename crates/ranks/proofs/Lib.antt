@@ -1,0 +1,4 @@
+pub mod Sorting
+pub mod Filling
+pub mod Keyed
+pub mod Ranking
