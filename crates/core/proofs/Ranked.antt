@@ -16,8 +16,8 @@ use Rattle.schedule.specs.Plans.{plans}
 use Rattle.schedule.specs.Promise.{Agreeing}
 use Rattle.schedule.specs.Offset.{raised, lowered, deskAt}
 use Rattle.schedule.specs.Columns.{at, columns, Limits}
-use Rattle.schedule.specs.Ranks.{ByRank, ByRelease}
 use Rattle.schedule.proofs.Renumbered.{in-rank, renumbered, order-rows, pair-renumbered, agreeing, same-plans}
+use Rattle.ranks.specs.Tables.{Tabled}
 use Rattle.picks.specs.declared.Standing.{Standing}
 use Rattle.picks.specs.Standing.{Tables}
 use Rattle.core.specs.declared.Front.{Front}
@@ -32,19 +32,7 @@ mem-at [] i h = absurd (not-suc-le-zero h)
 mem-at (x ∷ l) zero h = List·Memᴰ·head refl
 mem-at (x ∷ l) (suc i) h = List·Memᴰ·tail (mem-at l i (le-of-suc-le-suc h))
 
--- A column holds at each rank what the row of that rank has.
-abbrev pub Column : ℕ → List ℕ → List ℕ → List ℕ → Type 0
-Column n rows old new = ((k : ℕ) → 1 ≤ k → k ≤ n → at new k ≡ at old (at rows k)) × ((m : ℕ) → ((k : ℕ) → at old k ≤ m) → (k : ℕ) → at new k ≤ m)
-
--- The tables that a call makes of its columns: the rows by rank, and the columns in that order.
-pub record Tabled (n : ℕ) (rows release length₀ due release′ length′ due′ : List ℕ) : Type 0 where
-  pub limits : Limits (columns release length₀ due)
-  pub by-rank : ByRank n (columns release length₀ due) (at rows)
-  pub releases : Column n rows release release′
-  pub lengths : Column n rows length₀ length′
-  pub dues : Column n rows due due′
-
-module _ {n : ℕ} {rows release length₀ due release′ length′ due′ : List ℕ} (t : Tabled n rows release length₀ due release′ length′ due′) where
+module _ {n : ℕ} {release length₀ due rows release′ length′ due′ by : List ℕ} (t : Tabled n release length₀ due rows release′ length′ due′ by) (limits : Limits (columns release length₀ due)) where
   abbrev job : ℕ → Job
   job = columns release length₀ due
 
@@ -52,17 +40,17 @@ module _ {n : ℕ} {rows release length₀ due release′ length′ due′ : Lis
   job′ = columns release′ length′ due′
 
   same : (k : ℕ) → 1 ≤ k → k ≤ n → job′ k ≡ job (at rows k)
-  same k l h = λ x. record { release = t .releases .0 k l h x; length = t .lengths .0 k l h x; due = t .dues .0 k l h x }
+  same k l h = λ x. record { release = t .releases-ranked .each k l h x; length = t .lengths-ranked .each k l h x; due = t .dues-ranked .each k l h x }
 
   pub limits-ranked : Limits job′
   limits-ranked = record {
-    releases = t .releases .1 10000000 (t .limits .releases);
-    lengths = t .lengths .1 30000 (t .limits .lengths);
-    dues = t .dues .1 20000000 (t .limits .dues);
+    releases = t .releases-ranked .within 10000000 (limits .releases);
+    lengths = t .lengths-ranked .within 30000 (limits .lengths);
+    dues = t .dues-ranked .within 20000000 (limits .dues);
   }
 
-  pub tables : n ≤ 256 → (by : ℕ → ℕ) → ByRelease n job′ by → Tables n job′ by
-  tables few by r = record { few = few; in-rank = in-rank n job job′ (at rows) (t .by-rank) same; by-release = r }
+  pub tables : n ≤ 256 → Tables n job′ (at by)
+  tables few = record { few = few; in-rank = in-rank n job job′ (at rows) (t .by-rank) same; by-release = t .by-release length′ due′ }
 
   pub agreeing-ranked : Agreeing job (countFrom 1 n) → Agreeing job′ (countFrom 1 n)
   agreeing-ranked = agreeing n job job′ (at rows) (t .by-rank) same
@@ -114,7 +102,7 @@ module _ {n : ℕ} {rows release length₀ due release′ length′ due′ : Lis
   pub listed-ranked : 1 ≤ n → n ≤ 256 → (free : ℕ) → free ≤ 10000000 → Agreeing job (countFrom 1 n) → (r : Front) → Listed job′ n free r → Listed job n free r
   listed-ranked low few free early agrees r g =
       let e : plans job′ free (countFrom 1 n) ≡ plans job free (countFrom 1 n) =
-      sym (same-plans n job job′ (at rows) (t .by-rank) same free agrees low (fits job n free (t .limits) low few early agrees) (fits job′ n free limits-ranked low few early (agreeing-ranked agrees))) in
+      sym (same-plans n job job′ (at rows) (t .by-rank) same free agrees low (fits job n free limits low few early agrees) (fits job′ n free limits-ranked low few early (agreeing-ranked agrees))) in
       record {
         counted = g .counted ∙ ap length e;
         few = g .few;

@@ -75,23 +75,42 @@ fn run_on(
     ensures { λ r. ⌜ ((rest : List ℕ) → Sits n (columns (now (release .entry)) (now (length .entry)) (now (due .entry))) (at (now (by .entry))) rest begin →
         Ran n (columns (now (release .entry)) (now (length .entry)) (now (due .entry))) (at (now (by .entry))) bound rest begin (run (columns (now (release .entry)) (now (length .entry)) (now (due .entry))) (begin .desk .minute) rest) (now (order .entry)) r (now (order .exit))) ⌝ }
 {
-    let mut s = begin;
+    let mut desk = begin.desk;
+    let mut count = begin.count;
+    let mut next = begin.next;
+    let mut ready = begin.ready;
     loop {
-        if bound < s.desk.worst {
-            return s;
+        if bound < desk.worst {
+            return picks::Standing {
+                desk: desk,
+                count: count,
+                next: next,
+                ready: ready,
+            };
         }
-        let ready = s.ready;
-        let p = picks::picks(by, n, ready, s.next);
+        let p = picks::picks(by, n, &ready, next);
         let i = p.first;
         if i == 0 {
-            return s;
+            return picks::Standing {
+                desk: desk,
+                count: count,
+                next: next,
+                ready: ready,
+            };
         }
         if !decided_by(due, i, p.second) {
-            return s;
+            return picks::Standing {
+                desk: desk,
+                count: count,
+                next: next,
+                ready: ready,
+            };
         }
-        let k = s.count;
-        order[k] = i as u32;
-        s = picks::take(release, length, due, by, n, s, i);
+        order[count] = i as u32;
+        let m = picks::take(release, length, due, by, n, desk, next, &mut ready, i);
+        desk = m.desk;
+        next = m.next;
+        count += 1;
     }
 }
 
@@ -115,7 +134,15 @@ fn block_on(
 {
     let k = s.count;
     order[k] = i as u32;
-    let first = picks::take(release, length, due, by, n, s, i);
+    let mut ready = s.ready;
+    let m = picks::take(release, length, due, by, n, s.desk, s.next, &mut ready, i);
+    let desk = m.desk;
+    let first = picks::Standing {
+        desk: desk,
+        count: k + 1,
+        next: m.next,
+        ready: ready,
+    };
     run_on(release, length, due, by, n, first, bound, order)
 }
 
@@ -136,8 +163,7 @@ fn next_block(
     ensures { λ r. ⌜ ((rest : List ℕ) → Sits n (columns (now (release .entry)) (now (length .entry)) (now (due .entry))) (at (now (by .entry))) rest s → decided (columns (now (release .entry)) (now (length .entry)) (now (due .entry))) (s .desk .minute) rest ≡ false →
         Stepped n (columns (now (release .entry)) (now (length .entry)) (now (due .entry))) (at (now (by .entry))) bound rest s (now (order .entry)) r (now (order .exit))) ⌝ }
 {
-    let ready = s.ready;
-    let p = picks::picks(by, n, ready, s.next);
+    let p = picks::picks(by, n, &s.ready, s.next);
     let one = block_on(release, length, due, by, n, s, p.first, bound, order);
     if one.desk.worst <= bound {
         return Block {
@@ -169,8 +195,7 @@ fn block_two(
     ensures { λ r. ⌜ ((rest : List ℕ) → Sits n (columns (now (release .entry)) (now (length .entry)) (now (due .entry))) (at (now (by .entry))) rest s → decided (columns (now (release .entry)) (now (length .entry)) (now (due .entry))) (s .desk .minute) rest ≡ false →
         (s .count < r .count) × Ran n (columns (now (release .entry)) (now (length .entry)) (now (due .entry))) (at (now (by .entry))) bound rest s (blockTwo (columns (now (release .entry)) (now (length .entry)) (now (due .entry))) (s .desk .minute) rest) (now (order .entry)) r (now (order .exit))) ⌝ }
 {
-    let ready = s.ready;
-    let p = picks::picks(by, n, ready, s.next);
+    let p = picks::picks(by, n, &s.ready, s.next);
     block_on(release, length, due, by, n, s, p.second, bound, order)
 }
 
@@ -230,11 +255,22 @@ pub fn order_for(
     requires { ⌜ (1 ≤ n) × (n ≤ 256) × (free ≤ 10000000) × (n ≤ lib.ListN.length (now out)) ⌝ }
     ensures { λ r. ⌜ Ordered (columns (now (release .entry)) (now (length .entry)) (now (due .entry))) n free bound (now (out .entry)) r (now (out .exit)) ⌝ }
 {
-    let rows = ranks::rows_by_rank(release, length, due, n);
-    let releases = ranks::by_rank(release, &rows, n);
-    let lengths = ranks::by_rank(length, &rows, n);
-    let dues = ranks::by_rank(due, &rows, n);
-    let by = ranks::rows_by_release(&releases, n);
+    let mut rows: [u32; 257] = [0; 257];
+    let mut releases: [u32; 257] = [0; 257];
+    let mut lengths: [u32; 257] = [0; 257];
+    let mut dues: [u32; 257] = [0; 257];
+    let mut by: [u32; 256] = [0; 256];
+    ranks::tables(
+        release,
+        length,
+        due,
+        n,
+        &mut rows,
+        &mut releases,
+        &mut lengths,
+        &mut dues,
+        &mut by,
+    );
     let mut order: [u32; 256] = [0; 256];
     let s = plan_for(&releases, &lengths, &dues, &by, n, free, bound, &mut order);
     if bound < s.desk.worst {
@@ -496,10 +532,21 @@ pub fn list_plans(
     requires { ⌜ (1 ≤ n) × (n ≤ 256) × (free ≤ 10000000) × Agreeing (columns (now release) (now length) (now due)) (countFrom 1 n) ⌝ }
     ensures { λ r. ⌜ Listed (columns (now (release .entry)) (now (length .entry)) (now (due .entry))) n free r ⌝ }
 {
-    let rows = ranks::rows_by_rank(release, length, due, n);
-    let releases = ranks::by_rank(release, &rows, n);
-    let lengths = ranks::by_rank(length, &rows, n);
-    let dues = ranks::by_rank(due, &rows, n);
-    let by = ranks::rows_by_release(&releases, n);
+    let mut rows: [u32; 257] = [0; 257];
+    let mut releases: [u32; 257] = [0; 257];
+    let mut lengths: [u32; 257] = [0; 257];
+    let mut dues: [u32; 257] = [0; 257];
+    let mut by: [u32; 256] = [0; 256];
+    ranks::tables(
+        release,
+        length,
+        due,
+        n,
+        &mut rows,
+        &mut releases,
+        &mut lengths,
+        &mut dues,
+        &mut by,
+    );
     list_ranked(&releases, &lengths, &dues, &by, n, free)
 }

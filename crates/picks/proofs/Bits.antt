@@ -37,6 +37,13 @@ mark-same k b p = ap (λ (c : Bool). cond c b (p k)) (eq-eqb k k refl)
 pub mark-other : (k : ℕ) (b : Bool) (p : ℕ → Bool) (j : ℕ) → (j ≡ k → ⊥) → mark k b p j ≡ p j
 mark-other k b p j h = ap (λ (c : Bool). cond c b (p j)) (ne-eqb j k h)
 
+pub mark-out : (k : ℕ) (p : ℕ → Bool) (j : ℕ) → p j ≡ false → mark k false p j ≡ false
+mark-out k p j h = go (eqb j k)
+  where
+    go : (c : Bool) → cond c false (p j) ≡ false
+    go true = refl
+    go false = h
+
 -- A word with k put in or taken out: the words are equal but for k's own bit.
 pub word-split : (p : ℕ → Bool) (b : Bool) (k i m : ℕ) → i ≤ k → k < i + m → word p i m + bit b * 2 ^ (k - i) ≡ word (mark k b p) i m + bit (p k) * 2 ^ (k - i)
 unfolding word

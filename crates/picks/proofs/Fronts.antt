@@ -14,30 +14,33 @@ use Rattle.schedule.proofs.PickLaws.{Ahead, ahead-refl}
 use Rattle.picks.specs.Bits.{mark, Words, Least}
 use Rattle.picks.specs.Standing.{Tables, Stands, Late}
 use Rattle.picks.proofs.Bits.{apart}
+use Rattle.picks.proofs.Sets.{away-words}
 use Rattle.picks.proofs.Firsts.{pick-is, sooner, ranked, second-is}
 use Rattle.picks.proofs.Standings.{no-zero, stands-away, stands-next}
 
--- What `lowest`, `away` and `front` ensure.
+-- What `lowest`, `next_after` and `front` ensure.
 abbrev pub Lowest : List ℕ → ℕ → Type 0
 Lowest ws i = (p : ℕ → Bool) → Words p ws → p 0 ≡ false → Least p i
 
-abbrev pub Away : List ℕ → ℕ → List ℕ → Type 0
-Away ws i less = (p : ℕ → Bool) → Words p ws → p i ≡ true → Words (mark i false p) less
+abbrev pub NextAfter : List ℕ → (i j : ℕ) → Type 0
+NextAfter ws i j = (p : ℕ → Bool) → Words p ws → p 0 ≡ false → p i ≡ true → ((k : ℕ) → k < i → p k ≡ false) → Least (mark i false p) j
 
-abbrev pub Front : (n : ℕ) (by : ℕ → ℕ) (ws : List ℕ) (next j : ℕ) → Type 0
-Front n by ws next j = (job : ℕ → Job) (t : ℕ) (rest : List ℕ) → Tables n job by → Stands n job by t rest next ws → Late n job by t next → j ≡ firstPick job t rest
+abbrev pub Front : (n : ℕ) (by : ℕ → ℕ) (j next k : ℕ) → Type 0
+Front n by j next k =
+    (job : ℕ → Job) (t : ℕ) (rest ws : List ℕ) → Tables n job by → (s : Stands n job by t rest next ws) → Least (s .set) j → Late n job by t next → k ≡ firstPick job t rest
 
-module _ {n : ℕ} {job : ℕ → Job} {by : ℕ → ℕ} (r : Tables n job by) {t : ℕ} {rest : List ℕ} {next : ℕ} {ws : List ℕ} (s : Stands n job by t rest next ws) {i : ℕ} (l : Lowest ws i) where
-  least : Least (s .set) i
-  least = l (s .set) (s .words) (no-zero r s)
+-- The least row of the set, as `lowest` finds it.
+pub least-row : {n : ℕ} {job : ℕ → Job} {by : ℕ → ℕ} → Tables n job by → {t : ℕ} {rest : List ℕ} {next : ℕ} {ws : List ℕ} (s : Stands n job by t rest next ws) {i : ℕ} → Lowest ws i → Least (s .set) i
+least-row r s l = l (s .set) (s .words) (no-zero r s)
 
+module _ {n : ℕ} {job : ℕ → Job} {by : ℕ → ℕ} (r : Tables n job by) {t : ℕ} {rest : List ℕ} {next : ℕ} {ws : List ℕ} (s : Stands n job by t rest next ws) {i : ℕ} (least : Least (s .set) i) where
   module _ (some : i ≡ 0 → ⊥) where
     on : s .set i ≡ true
     on = least .some some .0
 
-    -- The least row of the set can be taken out.
-    pub can-away : (i < 320) × ((p : ℕ → Bool) × Words p ws × (p i ≡ true))
-    can-away = (least .below, (s .set, s .words, on))
+    -- After the least row of the set the next one can be sought.
+    pub can-next : (i < 320) × ((p : ℕ → Bool) × Words p ws × (p i ≡ true))
+    can-next = (least .below, (s .set, s .words, on))
 
     module _ (late : Late n job by t next) where
       -- It is the first pick: before the rows of the set by rank, before the rows ahead because it is released.
@@ -57,10 +60,12 @@ module _ {n : ℕ} {job : ℕ → Job} {by : ℕ → ℕ} (r : Tables n job by) 
               let g : job (by (k .0)) .release ≡ job j .release = ap (λ (x : ℕ). job x .release) (k .3) in
               sooner (omega (arith, s .on i on .1, late (k .0) (k .1) (k .2))) (omega (arith, late (k .0) (k .1) (k .2)))
 
-      pub ready-picks : {j : ℕ} {less : List ℕ} → Away ws i less → Front n by less next j → (i ≡ firstPick job t rest) × (j ≡ secondPick job t rest)
-      ready-picks {j} a f =
-          let w = a (s .set) (s .words) on in
-          (ready-pick, second-is job t rest i j ready-pick (f job t (without i rest) r (stands-away r s on w) late))
+      pub ready-picks : {j k : ℕ} → NextAfter ws i j → Front n by j next k → (i ≡ firstPick job t rest) × (k ≡ secondPick job t rest)
+      unfolding stands-away
+      ready-picks {j} {k} a f =
+          let l = a (s .set) (s .words) (no-zero r s) on (least .some some .1) in
+          let w = away-words (s .words) i (least .below) on in
+          (ready-pick, second-is job t rest i k ready-pick (f job t (without i rest) _ r (stands-away r s on w) l late))
 
   module _ (none : i ≡ 0) (late : Late n job by t next) where
     -- Where the set is empty each row left over stands at a place ahead,
@@ -85,9 +90,11 @@ module _ {n : ℕ} {job : ℕ → Job} {by : ℕ → ℕ} (r : Tables n job by) 
               cases Ordering·eq d = subst (λ (x : ℕ). Ahead job t (by next) (by x)) d (ahead-refl job t (by next))
               cases Ordering·gt d = let z : ⊥ = omega arith in absurd z
 
-      pub ahead-picks : {j k : ℕ} → k ≡ by next → Front n by ws (next + 1) j → (k ≡ firstPick job t rest) × (j ≡ secondPick job t rest)
+      pub ahead-picks : {j k : ℕ} → k ≡ by next → Front n by 0 (next + 1) j → (k ≡ firstPick job t rest) × (j ≡ secondPick job t rest)
+      unfolding stands-next
       ahead-picks {j} e f =
-          (e ∙ ahead-pick, second-is job t rest (by next) j ahead-pick (f job t (without (by next) rest) r (stands-next r s h) (λ k u v. late k (omega arith) v)))
+          let l = subst (Least (s .set)) none least in
+          (e ∙ ahead-pick, second-is job t rest (by next) j ahead-pick (f job t (without (by next) rest) ws r (stands-next r s h) l (λ k u v. late k (omega arith) v)))
 
     -- With no place ahead none is left over.
     none-left : n ≤ next → rest ≡ []

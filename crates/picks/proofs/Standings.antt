@@ -25,7 +25,7 @@ module _ {n : ℕ} {job : ℕ → Job} {by : ℕ → ℕ} (r : Tables n job by) 
       go false e = refl
 
   -- Two places, two rows.
-  rows-apart : (k l : ℕ) → k < l → l < n → by k ≡ by l → ⊥
+  pub rows-apart : (k l : ℕ) → k < l → l < n → by k ≡ by l → ⊥
   rows-apart k l h g e = go (r .by-release .sorted k l h g)
     where
       go : (job (by k) .release < job (by l) .release) ⊎ ((job (by k) .release ≡ job (by l) .release) × (by k < by l)) → ⊥
@@ -33,7 +33,7 @@ module _ {n : ℕ} {job : ℕ → Job} {by : ℕ → ℕ} (r : Tables n job by) 
       go (inr x) = omega (arith, x .1)
 
   -- The row i of the set is taken out.
-  pub stands-away : {i : ℕ} → s .set i ≡ true → {less : List ℕ} → Words (mark i false (s .set)) less → Stands n job by t (without i rest) next less
+  unfoldable pub stands-away : {i : ℕ} → s .set i ≡ true → {less : List ℕ} → Words (mark i false (s .set)) less → Stands n job by t (without i rest) next less
   stands-away {i} e w = record {
     set = mark i false (s .set);
     words = w;
@@ -60,7 +60,7 @@ module _ {n : ℕ} {job : ℕ → Job} {by : ℕ → ℕ} (r : Tables n job by) 
     next-off = s .ahead next (omega arith) h .1
 
     -- It is taken out,
-    pub stands-next : Stands n job by t (without (by next) rest) (next + 1) ws
+    unfoldable pub stands-next : Stands n job by t (without (by next) rest) (next + 1) ws
     stands-next = record {
       set = s .set;
       words = s .words;

@@ -1,5 +1,5 @@
 // The desk in planning: its picks, and what taking a row makes of it. Rows are numbered by rank, from 1; 0 stands for no row.
-// The released rows left over are bits of five words, and a cursor stands in the rows by release; giving rows back is keeping an old desk.
+// The released rows left over are bits of five words, and a cursor stands in the rows by release. `take` changes the words in place: giving rows back is keeping a copy of the desk as it was.
 ghost use mathlib.Core.Path.{_≡_};
 ghost use mathlib.Core.Bool.{Bool, true, false};
 ghost use mathlib.Core.List.{List, List·Memᴰ};
@@ -26,10 +26,10 @@ pub struct Picked {
     pub second: usize,
 }
 
-// What stands ahead, and the released rows left over.
-struct Released {
-    next: usize,
-    ready: [u64; 5],
+// The desk after a row, and the place in the rows by release.
+pub struct Moved {
+    pub desk: schedule::Desk,
+    pub next: usize,
 }
 
 // The least number of the set, or 0.
@@ -47,26 +47,41 @@ fn lowest(ready: &[u64; 5]) -> usize
     0
 }
 
-// The set with i.
-fn put(ready: [u64; 5], i: usize) -> [u64; 5]
-    requires { ⌜ (i < 320) × ((p : ℕ → Bool) × Words p ready × (p i ≡ false)) ⌝ }
-    ensures { λ r. ⌜ ((p : ℕ → Bool) → Words p ready → p i ≡ false → Words (mark i true p) r) ⌝ }
+// The least number of the set after i, its least number; or 0.
+fn next_after(ready: &[u64; 5], i: usize) -> usize
+    requires { ⌜ (i < 320) × ((p : ℕ → Bool) × Words p (now ready) × (p i ≡ true)) ⌝ }
+    ensures { λ r. ⌜ ((p : ℕ → Bool) → Words p (now (ready .entry)) → p 0 ≡ false → p i ≡ true → ((j : ℕ) → j < i → p j ≡ false) → Least (mark i false p) r) ⌝ }
 {
-    let mut r = ready;
-    let q = i / 64;
-    r[q] = r[q] + (1 << (i % 64));
-    r
+    let mut q = i / 64;
+    let mut w = ready[q] - (1 << (i % 64));
+    loop {
+        if w != 0 {
+            return q * 64 + (u64::trailing_zeros(w) as usize);
+        }
+        q += 1;
+        if q == 5 {
+            return 0;
+        }
+        w = ready[q];
+    }
 }
 
-// The set without i.
-fn away(ready: [u64; 5], i: usize) -> [u64; 5]
-    requires { ⌜ (i < 320) × ((p : ℕ → Bool) × Words p ready × (p i ≡ true)) ⌝ }
-    ensures { λ r. ⌜ ((p : ℕ → Bool) → Words p ready → p i ≡ true → Words (mark i false p) r) ⌝ }
+// The set with i, in place.
+fn put(ready: &mut [u64; 5], i: usize)
+    requires { ⌜ (i < 320) × ((p : ℕ → Bool) × Words p (now ready) × (p i ≡ false)) ⌝ }
+    ensures { λ _. ⌜ ((p : ℕ → Bool) → Words p (now (ready .entry)) → p i ≡ false → Words (mark i true p) (now (ready .exit))) ⌝ }
 {
-    let mut r = ready;
     let q = i / 64;
-    r[q] = r[q] - (1 << (i % 64));
-    r
+    ready[q] = ready[q] + (1 << (i % 64));
+}
+
+// The set without i, in place.
+fn away(ready: &mut [u64; 5], i: usize)
+    requires { ⌜ (i < 320) × ((p : ℕ → Bool) × Words p (now ready) × (p i ≡ true)) ⌝ }
+    ensures { λ _. ⌜ ((p : ℕ → Bool) → Words p (now (ready .entry)) → p i ≡ true → Words (mark i false p) (now (ready .exit))) ⌝ }
+{
+    let q = i / 64;
+    ready[q] = ready[q] - (1 << (i % 64));
 }
 
 // A row number as a place.
@@ -76,15 +91,14 @@ fn wide(x: u32) -> usize
     x as usize
 }
 
-// The first pick of the rows left over: the least row of the set, or the next row ahead, or 0.
-fn front(by: &[u32; 256], n: usize, ready: &[u64; 5], next: usize) -> usize
+// The first pick, from the least row j of the set, 0 for none: it, or the next row ahead, or 0.
+fn front(by: &[u32; 256], n: usize, j: usize, next: usize) -> usize
     requires { ⌜ n ≤ 256 ⌝ }
-    ensures { λ r. ⌜ ((job : ℕ → Job) (t : ℕ) (rest : List ℕ) → Tables n job (at (now (by .entry))) →
-        Stands n job (at (now (by .entry))) t rest next (now (ready .entry)) → Late n job (at (now (by .entry))) t next → r ≡ firstPick job t rest) ⌝ }
+    ensures { λ r. ⌜ ((job : ℕ → Job) (t : ℕ) (rest ready : List ℕ) → Tables n job (at (now (by .entry))) →
+        (s : Stands n job (at (now (by .entry))) t rest next ready) → Least (s .set) j → Late n job (at (now (by .entry))) t next → r ≡ firstPick job t rest) ⌝ }
 {
-    let i = lowest(ready);
-    if i != 0 {
-        return i;
+    if j != 0 {
+        return j;
     }
     if next < n {
         return wide(by[next]);
@@ -93,27 +107,25 @@ fn front(by: &[u32; 256], n: usize, ready: &[u64; 5], next: usize) -> usize
 }
 
 // Both picks.
-pub fn picks(by: &[u32; 256], n: usize, ready: [u64; 5], next: usize) -> Picked
-    requires { ⌜ (n ≤ 256) × ((job : ℕ → Job) × (t : ℕ) × (rest : List ℕ) × Tables n job (at (now by)) × Stands n job (at (now by)) t rest next ready) ⌝ }
+pub fn picks(by: &[u32; 256], n: usize, ready: &[u64; 5], next: usize) -> Picked
+    requires { ⌜ (n ≤ 256) × ((job : ℕ → Job) × (t : ℕ) × (rest : List ℕ) × Tables n job (at (now by)) × Stands n job (at (now by)) t rest next (now ready)) ⌝ }
     ensures { λ r. ⌜ ((job : ℕ → Job) (t : ℕ) (rest : List ℕ) → Tables n job (at (now (by .entry))) →
-        Stands n job (at (now (by .entry))) t rest next ready → Late n job (at (now (by .entry))) t next →
+        Stands n job (at (now (by .entry))) t rest next (now (ready .entry)) → Late n job (at (now (by .entry))) t next →
         (r .first ≡ firstPick job t rest) × (r .second ≡ secondPick job t rest)) ⌝ }
 {
-    let i = lowest(&ready);
+    let i = lowest(ready);
     if i != 0 {
-        let less = away(ready, i);
-        let j = front(by, n, &less, next);
+        let j = next_after(ready, i);
         return Picked {
             first: i,
-            second: j,
+            second: front(by, n, j, next),
         };
     }
     if next < n {
         let k = wide(by[next]);
-        let j = front(by, n, &ready, next + 1);
         return Picked {
             first: k,
-            second: j,
+            second: front(by, n, 0, next + 1),
         };
     }
     Picked {
@@ -122,65 +134,58 @@ pub fn picks(by: &[u32; 256], n: usize, ready: [u64; 5], next: usize) -> Picked
     }
 }
 
-// The rows ahead that are released by the minute t are put into the set.
+// The rows ahead that are released by the minute t are put into the set; the place from which on rows are ahead then.
 fn advance(
     release: &[u32; 257],
     by: &[u32; 256],
     n: usize,
-    ready: [u64; 5],
+    ready: &mut [u64; 5],
     from: usize,
     t: u32,
-) -> Released
-    requires { ⌜ ((length due : List ℕ) × (rest : List ℕ) × Tables n (columns (now release) length due) (at (now by)) × Stands n (columns (now release) length due) (at (now by)) t rest from ready) ⌝ }
-    ensures { λ r. ⌜ ((length due rest : List ℕ) → Tables n (columns (now (release .entry)) length due) (at (now (by .entry))) → Stands n (columns (now (release .entry)) length due) (at (now (by .entry))) t rest from ready →
-        Stands n (columns (now (release .entry)) length due) (at (now (by .entry))) t rest (r .next) (r .ready) × Late n (columns (now (release .entry)) length due) (at (now (by .entry))) t (r .next)) ⌝ }
+) -> usize
+    requires { ⌜ ((length due : List ℕ) × (rest : List ℕ) × Tables n (columns (now release) length due) (at (now by)) × Stands n (columns (now release) length due) (at (now by)) t rest from (now ready)) ⌝ }
+    ensures { λ r. ⌜ ((length due rest : List ℕ) → Tables n (columns (now (release .entry)) length due) (at (now (by .entry))) → Stands n (columns (now (release .entry)) length due) (at (now (by .entry))) t rest from (now (ready .entry)) →
+        Stands n (columns (now (release .entry)) length due) (at (now (by .entry))) t rest r (now (ready .exit)) × Late n (columns (now (release .entry)) length due) (at (now (by .entry))) t r) ⌝ }
 {
     let mut next = from;
-    let mut r = ready;
     while next < n {
         let i = wide(by[next]);
         if t < release[i] {
-            return Released {
-                next: next,
-                ready: r,
-            };
+            return next;
         }
-        let more = put(r, i);
-        r = more;
+        put(ready, i);
         next += 1;
     }
-    Released {
-        next: next,
-        ready: r,
-    }
+    next
 }
 
-// Row i is taken: the desk moves to its end, and the rows released by then are put into the set.
+// Row i is taken: the desk moves to its end, the rows released by then are put into the set, and i is taken out of it.
 pub fn take(
     release: &[u32; 257],
     length: &[u32; 257],
     due: &[u32; 257],
     by: &[u32; 256],
     n: usize,
-    s: Standing,
+    desk: schedule::Desk,
+    next: usize,
+    ready: &mut [u64; 5],
     i: usize,
-) -> Standing
+) -> Moved
     requires { ⌜ Limits (columns (now release) (now length) (now due)) ⌝ }
-    requires { ⌜ Tables n (columns (now release) (now length) (now due)) (at (now by)) × ((rest : List ℕ) × Sits n (columns (now release) (now length) (now due)) (at (now by)) rest s × List·Memᴰ i rest) ⌝ }
-    ensures { λ r. ⌜ ((rest : List ℕ) → Sits n (columns (now (release .entry)) (now (length .entry)) (now (due .entry))) (at (now (by .entry))) rest s → List·Memᴰ i rest →
-        Taken n (columns (now (release .entry)) (now (length .entry)) (now (due .entry))) (at (now (by .entry))) rest s i r) ⌝ }
+    requires { ⌜ Tables n (columns (now release) (now length) (now due)) (at (now by)) × ((rest : List ℕ) × (count : ℕ) ×
+        Sits n (columns (now release) (now length) (now due)) (at (now by)) rest (record { desk = desk; count = count; next = next; ready = now ready }) × List·Memᴰ i rest) ⌝ }
+    ensures { λ r. ⌜ ((rest : List ℕ) (count : ℕ) →
+        Sits n (columns (now (release .entry)) (now (length .entry)) (now (due .entry))) (at (now (by .entry))) rest (record { desk = desk; count = count; next = next; ready = now (ready .entry) }) →
+        List·Memᴰ i rest →
+        Taken n (columns (now (release .entry)) (now (length .entry)) (now (due .entry))) (at (now (by .entry))) rest (record { desk = desk; count = count; next = next; ready = now (ready .entry) }) i
+        (record { desk = r .desk; count = count + 1; next = r .next; ready = now (ready .exit) })) ⌝ }
 {
-    let desk = s.desk;
     let after = desk.take(release[i], length[i], due[i]);
-    let ready = s.ready;
-    let a = advance(release, by, n, ready, s.next, after.minute);
-    let more = a.ready;
-    let less = away(more, i);
-    Standing {
+    let ahead = advance(release, by, n, ready, next, after.minute);
+    away(ready, i);
+    Moved {
         desk: after,
-        count: s.count + 1,
-        next: a.next,
-        ready: less,
+        next: ahead,
     }
 }
 
@@ -190,13 +195,12 @@ pub fn start(release: &[u32; 257], by: &[u32; 256], n: usize, free: u32) -> Stan
     ensures { λ r. ⌜ ((length due : List ℕ) → Tables n (columns (now (release .entry)) length due) (at (now (by .entry))) → Sits n (columns (now (release .entry)) length due) (at (now (by .entry))) (countFrom 1 n) r) ×
         (r .desk ≡ deskAt free) × (r .count ≡ 0) ⌝ }
 {
-    let none: [u64; 5] = [0; 5];
-    let a = advance(release, by, n, none, 0, free);
-    let ready = a.ready;
+    let mut ready: [u64; 5] = [0; 5];
+    let next = advance(release, by, n, &mut ready, 0, free);
     Standing {
         desk: schedule::Desk::at(free),
         count: 0,
-        next: a.next,
+        next: next,
         ready: ready,
     }
 }

@@ -8,10 +8,10 @@ use Rattle.picks.proofs.advance.Statement.{statement}
 use Rattle.picks.proofs.advance.Tie as tie
 
 abbrev Inv-loop : tie.InvT-loop
-Inv-loop release by n from t next₀ r₀ next r = (next ≤ n) × Toward release by n t from r₀ next r
+Inv-loop release by n ready₀ from t next₀ ready next = (next ≤ n) × Toward release by n t from ready₀ next ready
 
 abbrev μ-loop : tie.MeasureT-loop
-μ-loop release by n from t next₀ r₀ next r = n - next
+μ-loop release by n ready₀ from t next₀ ready next = n - next
 
 loop-holds : tie.Need-loop-holds Inv-loop μ-loop
 loop-holds c = (c .pre .4 .place, λ length due rest k s. s)
@@ -39,9 +39,9 @@ returns c =
 
 put-requires : tie.Need-put-requires Inv-loop μ-loop
 put-requires c κs =
-    let e = c .before .before .before .before .before .before .pre in
-    can-put (e .3) (c .before .before .before .before .loop-test .taken) (c .before .before .wide .ensures)
-    (c .before .before .before .before .before .loop .inv .1 (e .0) (e .1) (e .2) (e .3) (e .4))
+    let e = c .before .before .before .before .before .before .before .pre in
+    can-put (e .3) (c .before .before .before .before .before .loop-test .taken) (c .before .before .before .wide .ensures)
+    (c .before .before .before .before .before .before .loop .inv .1 (e .0) (e .1) (e .2) (e .3) (e .4))
 
 add-next : tie.Need-add-next Inv-loop μ-loop
 add-next c = search needs
@@ -51,10 +51,10 @@ loop-less c = search needs
 
 loop-again : tie.Need-loop-again Inv-loop μ-loop
 loop-again c = (
-  omega (arith, c .before .before .before .before .before .loop-test .taken),
+  omega (arith, c .before .before .before .before .before .before .loop-test .taken),
   λ length due rest k s₀.
-      next-put k (c .before .before .before .before .before .loop-test .taken) (c .before .before .before .wide .ensures)
-      (c .before .before .before .before .before .before .loop .inv .1 length due rest k s₀) (c .before .if1 .left) (c .put .ensures),
+      next-put k (c .before .before .before .before .before .before .loop-test .taken) (c .before .before .before .before .wide .ensures)
+      (c .before .before .before .before .before .before .before .loop .inv .1 length due rest k s₀) (c .before .before .if1 .left) (c .put .ensures),
 )
 
 returns-2 : tie.Need-returns-2 Inv-loop μ-loop

@@ -9,8 +9,8 @@ use Rattle.picks.proofs.start.Tie as tie
 
 advance-requires : tie.Need-advance-requires
 advance-requires c κs =
-    let e = c .pre .0 in
-    (e .0, e .1, countFrom 1 (c .args .n), e .2, at-start (e .2) (c .args .free))
+    let e = c .before .pre .0 in
+    (e .0, e .1, countFrom 1 (c .before .args .n), e .2, at-start (e .2) (c .before .args .free))
 
 at-requires : tie.Need-at-requires
 at-requires c κs = search needs
@@ -19,7 +19,7 @@ returns : tie.Need-returns
 returns c = (
   λ length due k.
       let a = c .before .before .before .args in
-      started (c .before .before .before .pre .1) (c .at .ensures) (c .before .before .advance .ensures length due (countFrom 1 (a .n)) k (at-start k (a .free))),
+      started (c .before .before .before .pre .1) (c .at .ensures) (c .before .advance .ensures length due (countFrom 1 (a .n)) k (at-start k (a .free))),
   c .at .ensures,
   refl,
 )
