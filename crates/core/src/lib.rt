@@ -427,24 +427,24 @@ fn resume(
     due: &[u32; 257],
     by: &[u32; 256],
     n: usize,
-    last: Reached,
+    reached: Reached,
     bound: u32,
     order: &mut [u32; 256],
     trail: &mut [[u64; 10]; 257],
 ) -> Reached
     requires { ⌜ Limits (columns (now release) (now length) (now due)) ⌝ }
     requires { ⌜ Tables n (columns (now release) (now length) (now due)) (at (now by)) ⌝ }
-    requires { ⌜ (lib.ListN.length (now order) ≡ 256) × (lib.ListN.length (now trail) ≡ 257) × ((free : ℕ) × (before : ℕ) × Lowered n (columns (now release) (now length) (now due)) (at (now by)) free before bound (now trail) last) ⌝ }
+    requires { ⌜ (lib.ListN.length (now order) ≡ 256) × (lib.ListN.length (now trail) ≡ 257) × ((free : ℕ) × (before : ℕ) × Lowered n (columns (now release) (now length) (now due)) (at (now by)) free before bound (now trail) reached) ⌝ }
     ensures { λ r. ⌜ (lib.ListN.length (now (order .exit)) ≡ 256) × (lib.ListN.length (now (trail .exit)) ≡ 257) ×
-        ((free before : ℕ) → Lowered n (columns (now (release .entry)) (now (length .entry)) (now (due .entry))) (at (now (by .entry))) free before bound (now (trail .entry)) last → Found n (columns (now (release .entry)) (now (length .entry)) (now (due .entry))) (at (now (by .entry))) free bound (now (trail .exit)) r) ⌝ }
+        ((free before : ℕ) → Lowered n (columns (now (release .entry)) (now (length .entry)) (now (due .entry))) (at (now (by .entry))) free before bound (now (trail .entry)) reached → Found n (columns (now (release .entry)) (now (length .entry)) (now (due .entry))) (at (now (by .entry))) free bound (now (trail .exit)) r) ⌝ }
 {
-    let k = back_to(trail, last.depth, bound);
+    let k = back_to(trail, reached.depth, bound);
     if k == 0 {
-        return last;
+        return reached;
     }
     let w = trail[k - 1];
     if w[4] != 0 {
-        return last;
+        return reached;
     }
     let s = desk_of(w);
     let two = block_two(release, length, due, by, n, s, bound, order);
@@ -484,7 +484,7 @@ fn list_ranked(
     let mut bound: u32 = LARGEST_BOUND;
     let begin = picks::start(release, by, n, free);
     let first = run_on(release, length, due, by, n, begin, bound, &mut order);
-    let mut last = onward(
+    let mut reached = onward(
         release,
         length,
         due,
@@ -497,7 +497,7 @@ fn list_ranked(
         &mut trail,
     );
     loop {
-        let Planned::Kept(end, late) = answer(last.at.desk, bound) else {
+        let Planned::Kept(end, late) = answer(reached.at.desk, bound) else {
             return Front {
                 count: count,
                 ends: ends,
@@ -506,13 +506,13 @@ fn list_ranked(
         };
         count = put_pair(&mut ends, &mut lates, count, end, late);
         bound = late - 1;
-        last = resume(
+        reached = resume(
             release,
             length,
             due,
             by,
             n,
-            last,
+            reached,
             bound,
             &mut order,
             &mut trail,

@@ -16,11 +16,11 @@ use Rattle.core.proofs.Lists.{Listing, listing-first, listing-last, lis
 use Rattle.core.proofs.Searches.{came-first, answers, lowers}
 
 abbrev Inv-loop : tie.InvT-loop
-Inv-loop release length due by n free order₀ trail₀ ends₀ lates₀ count₀ bound₀ last₀ order trail ends lates count bound last =
-    (L.length order ≡ 256) × (L.length trail ≡ 257) × Found n (columns release length due) (at by) free bound trail last × Listing (columns release length due) n free (record { count = count; ends = ends; lates = lates }) bound
+Inv-loop release length due by n free order₀ trail₀ ends₀ lates₀ count₀ bound₀ reached₀ order trail ends lates count bound reached =
+    (L.length order ≡ 256) × (L.length trail ≡ 257) × Found n (columns release length due) (at by) free bound trail reached × Listing (columns release length due) n free (record { count = count; ends = ends; lates = lates }) bound
 
 abbrev μ-loop : tie.MeasureT-loop
-μ-loop release length due by n free order₀ trail₀ ends₀ lates₀ count₀ bound₀ last₀ order trail ends lates count bound last = bound
+μ-loop release length due by n free order₀ trail₀ ends₀ lates₀ count₀ bound₀ reached₀ order trail ends lates count bound reached = bound
 
 start-requires : tie.Need-start-requires Inv-loop μ-loop
 start-requires c κs = ((c .args .length .now, c .args .due .now, c .pre .1 .0), c .pre .1 .1 .1)
