@@ -531,10 +531,16 @@ pub const MOST_PLANS: usize = 230;
 /// and less late. That is a plan for each of these choices. The gaps may not outlast the long row,
 /// so there are at most 229. The further rows are released when the busy desk would be through.
 pub fn many_plans(rows: usize) -> Draft {
+    plans_among(rows, rows.min(MOST_PLANS))
+}
+
+/// The same with fewer plans than rows: the rows past the first `plans` come last and add no plan.
+pub fn plans_among(rows: usize, plans: usize) -> Draft {
     assert!((2..=MAX_ROWS).contains(&rows));
+    assert!((2..=rows.min(MOST_PLANS)).contains(&plans));
     const SHORT: i64 = 15;
     const LONG: i64 = 30_000;
-    let shorts = rows.min(MOST_PLANS) as i64 - 1;
+    let shorts = plans as i64 - 1;
     let mut day = Draft::empty(0, 4);
     // No row has any spare.
     let mut add = |release: i64, pages: i64| day.push(release, pages, release + length(pages, 4));
@@ -544,7 +550,7 @@ pub fn many_plans(rows: usize) -> Draft {
         minute += gap + SHORT;
     }
     add(0, 2_000);
-    for _ in MOST_PLANS..rows {
+    for _ in plans..rows {
         add(LONG + SHORT * shorts, 1);
     }
     day

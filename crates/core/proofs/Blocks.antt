@@ -1,7 +1,6 @@
 -- The next block of a desk that is not decided: block one where the bound is kept with it, otherwise block two.
 -- Assumes nothing.
 use Prim.Native.Nat.{ℕ, _≤_, _<_}
-use native.Mathlib.Omega.{arith}
 use mathlib.Core.Bool.{true, false}
 use mathlib.Core.Path.{_≡_, sym, ap, _∙_, subst}
 use mathlib.Core.List.{List, _++_}
@@ -9,7 +8,6 @@ use lib.ListN.{take}
 use Rattle.theory.specs.Jobs.{Job}
 use Rattle.schedule.specs.Picks.{firstPick, secondPick, block, blockOne, blockTwo}
 use Rattle.picks.specs.declared.Standing.{Standing}
-use Rattle.core.specs.declared.Block.{Block}
 use Rattle.core.specs.Taking.{Ran, Stepped}
 use Rattle.core.proofs.Picked.{apart}
 

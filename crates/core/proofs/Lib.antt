@@ -7,6 +7,7 @@ pub mod Ways
 pub mod Words
 pub mod Trails
 pub mod Searches
+pub mod Resumed
 pub mod Following
 pub mod Lists
 pub mod Planning

@@ -3,7 +3,7 @@
 use Prim.Native.Nat.{ℕ, zero, suc, _≤_, _<_}
 use native.Mathlib.Omega.{arith}
 use native.Mathlib.Nat.{not-suc-le-zero, le-of-suc-le-suc}
-use mathlib.Core.Path.{_≡_, refl, sym, ap, _∙_, subst}
+use mathlib.Core.Path.{_≡_, refl, sym, ap, _∙_}
 use mathlib.Core.List.{List, [], _∷_, _++_, map, List·Memᴰ, List·Memᴰ·head, List·Memᴰ·tail}
 use mathlib.Core.Option.{Option, none, some, Option·map}
 use lib.ListN.{length, take, drop, getD, length-map}
@@ -22,7 +22,6 @@ use Rattle.picks.specs.declared.Standing.{Standing}
 use Rattle.picks.specs.Standing.{Tables}
 use Rattle.core.specs.declared.Front.{Front}
 use Rattle.core.specs.declared.Planned.the-variants.{Kept, Unkept}
-use Rattle.core.specs.Taking.{deskThrough}
 use Rattle.core.specs.Answers.{plannedOf, orderOf, writtenOf, Searched, Ordered, Listed}
 use Rattle.core.proofs.Signs.{through-late, followed-end, followed-raised}
 use Rattle.core.proofs.Lists.{fits}

@@ -1,17 +1,17 @@
--- The search from block to block: how it comes past the opening run, goes on with a block, is taken up again with a smaller bound, and what it answers at its end.
+-- The search from block to block: how it comes past the opening run and goes on with a block, and what it answers at its end.
 -- Assumes nothing.
-use Prim.Native.Nat.{ℕ, zero, suc, _+_, _-_, _*_, _≤_, _<_}
+use Prim.Native.Nat.{ℕ, suc, _+_, _≤_, _<_}
 use native.Mathlib.Omega.{arith}
 use native.Mathlib.Numerals.{add-one}
 use mathlib.Core.Bool.{Bool, true, false, cond}
 use mathlib.Core.Path.{_≡_, refl, sym, ap, _∙_, subst}
 use mathlib.Core.List.{List, [], _∷_, _++_}
-use mathlib.Core.Logic.{_⊎_, inl, inr}
-use mathlib.Core.Option.{Option, none, some}
+use mathlib.Core.Logic.{inl, inr}
+use mathlib.Core.Option.{none}
 use lib.Dec.{leb}
-use lib.ListN.{length, take, getD, set}
+use lib.ListN.{length, take, set}
 use lib.Seq.{getD-set-same}
-use borrow.Author.Tests.{le-leb, lt-leb, leb-true, leb-false}
+use borrow.Author.Tests.{leb-true, leb-false}
 use Rattle.theory.specs.Jobs.{Job}
 use Rattle.schedule.specs.declared.Desk.{Desk}
 use Rattle.schedule.specs.Rows.{countFrom, withoutAll}
@@ -20,22 +20,20 @@ use Rattle.schedule.specs.Picks.{decided, run, block, blockOne, blockTwo}
 use Rattle.schedule.specs.Columns.{at, Limits}
 use Rattle.schedule.specs.Offset.{deskAt, raised}
 use Rattle.picks.specs.declared.Standing.{Standing}
-use Rattle.picks.specs.Bits.{bit}
-use Rattle.picks.specs.Standing.{Tables, Sits}
+use Rattle.picks.specs.Standing.{Sits}
 use Rattle.core.specs.declared.Block.{Block}
 use Rattle.core.specs.declared.Reached.{Reached}
-use Rattle.core.specs.declared.Planned.{Planned}
 use Rattle.core.specs.declared.Planned.the-variants.{Kept, Unkept}
 use Rattle.core.specs.Taking.{deskThrough, Stuck, Moved, Ran, Stepped}
 use Rattle.core.specs.Answers.{answerOf, plannedOf, orderOf, Paired}
-use Rattle.core.specs.Trails.{wordsOf, wordsAt, worstAt, Fits, Back, Way, Entry, Held, Here, Came, Found, Lowered}
+use Rattle.core.specs.Trails.{wordsOf, wordsAt, Way, Held, Here, Came, Found}
 use Rattle.core.proofs.Picked.{apart}
 use Rattle.core.proofs.Signs.{through-late, followed-end, followed-raised}
 use Rattle.core.proofs.Ways.{opening-over, way-first, way-done, way-one, way-two, way-none}
-use Rattle.core.proofs.Trails.{held-set, held-less, held-back}
+use Rattle.core.proofs.Trails.{held-set}
 
 -- Where the desk is not decided, rows are left.
-torn-more : (n : ℕ) (job : ℕ → Job) (by : ℕ → ℕ) (rest : List ℕ) (s : Standing) → Sits n job by rest s → decided job (s .desk .minute) rest ≡ false → s .count ≡ n → ⊥
+pub torn-more : (n : ℕ) (job : ℕ → Job) (by : ℕ → ℕ) (rest : List ℕ) (s : Standing) → Sits n job by rest s → decided job (s .desk .minute) rest ≡ false → s .count ≡ n → ⊥
 unfolding decided
 torn-more n job by [] s g e c = apart (sym e)
 torn-more n job by (i ∷ is) s g e c = omega (arith, g .count)
@@ -202,106 +200,3 @@ module _ (n : ℕ) (job : ℕ → Job) (by : ℕ → ℕ) (limits : Limits job) 
         go : (c : Bool) → leb (end .worst) bound ≡ c → Paired job n free bound (answerOf end bound)
         go true e = subst (λ (c : Bool). Paired job n free bound (cond c (Kept (end .minute) (end .worst)) Unkept)) (sym e) (pair-kept (leb-true (end .worst) bound e))
         go false e = subst (λ (c : Bool). Paired job n free bound (cond c (Kept (end .minute) (end .worst)) Unkept)) (sym e) (pair-unkept (leb-false (end .worst) bound e))
-
-  -- The bound goes one below the worst lateness of the plan found.
-  pub lowers : (bound : ℕ) (trail : List (List ℕ)) (r : Reached) → Found n job by free bound trail r → (e l : ℕ) → answerOf (r .at .desk) bound ≡ Kept e l → 1 ≤ l →
-      Lowered n job by free bound (l - 1) trail r
-  unfolding answerOf
-  lowers bound trail r f e l given low = go (leb (r .at .desk .worst) bound) refl given
-    where
-      late-in : Planned → ℕ
-      late-in Unkept = 0
-      late-in (Kept e l) = l
-
-      go : (c : Bool) → leb (r .at .desk .worst) bound ≡ c → cond c (Kept (r .at .desk .minute) (r .at .desk .worst)) Unkept ≡ Kept e l → Lowered n job by free bound (l - 1) trail r
-      go true x y = record { found = f; kept = leb-true (r .at .desk .worst) bound x; less = omega (arith, ap late-in y) }
-      go false x y = let z : ⊥ = omega (arith, ap late-in y) in absurd z
-
-  pub lowered-room : (before bound : ℕ) (trail : List (List ℕ)) (last : Reached) → Lowered n job by free before bound trail last → n ≤ 256 → last .depth ≤ 256
-  lowered-room before bound trail last g few = let h = g .found .came .kept (g .kept) in omega (arith, h .place, h .way .sits .count)
-
-  -- The search is taken up again with the bound one below the worst lateness.
-  module _ (before bound : ℕ) (trail : List (List ℕ)) (last : Reached) (g : Lowered n job by free before bound trail last) (k : ℕ) (back : Back trail bound (last .depth) k) where
-    here : Here n job by free before trail (last .depth) (last .at)
-    here = g .found .came .kept (g .kept)
-
-    pub back-held : (late : ℕ) × (bound < late) × Held n job by free bound trail k late
-    back-held =
-        held-back n job by free limits bound trail (last .depth) (last .at .desk .worst) k
-        (held-less n job by free limits before bound (omega (arith, g .kept, g .less)) trail (last .depth) (last .at .desk .worst) (here .held)) (omega (arith, g .less)) back
-
-    -- No order keeps the bound: the search stays where it came to.
-    stays : orderOf job n free bound ≡ none → Found n job by free bound trail last
-    stays e = record {
-      came = record { kept = λ h. let z : ⊥ = omega (arith, g .less) in absurd z; over = λ h. e };
-      all = λ h. let z : ⊥ = omega (arith, g .less) in absurd z;
-    }
-
-    -- The opening run holds the worst lateness.
-    pub found-opening : k ≡ 0 → Found n job by free bound trail last
-    found-opening e =
-        let x = back-held in
-        stays (subst (λ (m : ℕ). Held n job by free bound trail m (x .0)) e (x .2) bound (x .1))
-
-    module _ (e : ℕ) (is : k ≡ suc e) where
-      abbrev late : ℕ
-      late = back-held .0
-
-      entry : Entry n job by free bound e (wordsAt trail e) late × Held n job by free bound trail e (worstAt trail e)
-      entry = subst (λ (m : ℕ). Held n job by free bound trail m late) is (back-held .2)
-
-      pub block-from : Entry n job by free bound e (wordsAt trail e) late
-      block-from = entry .0
-
-      abbrev from : Standing
-      from = block-from .from
-
-      from-low : from .desk .worst ≤ bound
-      from-low = omega (arith, back .begun e is, ap (λ (w : List ℕ). at w 1) (block-from .held))
-
-      from-more : from .count ≡ n → ⊥
-      from-more = torn-more n job by (block-from .rest) from (block-from .way .sits) (block-from .torn)
-
-      -- Block two holds it.
-      pub found-two : (at (wordsAt trail e) 4 ≡ 0 → ⊥) → Found n job by free bound trail last
-      found-two z = stays (go (block-from .second) refl)
-        where
-          go : (c : Bool) → block-from .second ≡ c → orderOf job n free bound ≡ none
-          go false x = absurd (z (ap (λ (w : List ℕ). at w 4) (block-from .held) ∙ ap bit x))
-          go true x =
-              way-none job limits n by free bound (block-from .done) (block-from .rest) from (block-from .way) from-more (block-from .first-over x) from-low
-              (omega (arith, back-held .1, block-from .late ∙ ap (λ (c : Bool). deskThrough job (from .desk) (cond c (blockTwo job (from .desk .minute) (block-from .rest)) (blockOne job (from .desk .minute) (block-from .rest))) .worst) x))
-
-      -- Block one holds it: block two is taken in its place.
-      module _ (z : at (wordsAt trail e) 4 ≡ 0) where
-        block-one : block-from .second ≡ false
-        block-one = go (block-from .second) refl
-          where
-            go : (c : Bool) → block-from .second ≡ c → block-from .second ≡ false
-            go false x = x
-            go true x = let y : ⊥ = omega (arith, sym z ∙ (ap (λ (w : List ℕ). at w 4) (block-from .held) ∙ ap bit x)) in absurd y
-
-        came-instead : e < length trail → (order : List ℕ) (r : Standing) (after : List ℕ) →
-            (from .count < r .count) × Ran n job by bound (block-from .rest) from (blockTwo job (from .desk .minute) (block-from .rest)) order r after → Came n job by free bound (set trail e (wordsOf from true)) k r
-        came-instead room order r after q =
-            subst (λ (m : ℕ). Came n job by free bound (set trail e (wordsOf from true)) m r) (sym is)
-            (came-two bound trail e from (block-from .done) (block-from .rest) (block-from .way) (block-from .torn) from-low (block-from .place) room
-            (subst (λ (w : List ℕ). Held n job by free bound trail e (at w 1)) (block-from .held) (entry .1))
-            (omega (arith, back-held .1, block-from .late ∙ ap (λ (c : Bool). deskThrough job (from .desk) (cond c (blockTwo job (from .desk .minute) (block-from .rest)) (blockOne job (from .desk .minute) (block-from .rest))) .worst) block-one))
-            order r after (q .0) (q .1))
-
-        -- The desk s that the code has from the words is the one where the block began.
-        module _ (s : Standing) (same : s ≡ from) where
-          pub from-sits : Sits n job by (block-from .rest) s
-          from-sits = subst (λ (x : Standing). Sits n job by (block-from .rest) x) (sym same) (block-from .way .sits)
-
-          pub from-torn : decided job (s .desk .minute) (block-from .rest) ≡ false
-          from-torn = ap (λ (x : Standing). decided job (x .desk .minute) (block-from .rest)) same ∙ block-from .torn
-
-          pub came-resumed : e < length trail → (order : List ℕ) (r : Standing) (after : List ℕ) →
-              (s .count < r .count) × Ran n job by bound (block-from .rest) s (blockTwo job (s .desk .minute) (block-from .rest)) order r after →
-              (words : List ℕ) → words ≡ wordsOf s true → Came n job by free bound (set trail e words) k r
-          came-resumed room order r after q words held =
-              subst (λ (w : List ℕ). Came n job by free bound (set trail e w) k r) (ap (λ (x : Standing). wordsOf x true) (sym same) ∙ sym held)
-              (came-instead room order r after
-              (subst (λ (x : Standing). (x .count < r .count) × Ran n job by bound (block-from .rest) x (blockTwo job (x .desk .minute) (block-from .rest)) order r after) same q))

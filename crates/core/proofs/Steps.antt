@@ -1,12 +1,12 @@
 -- The run from a desk in planning, row by row: what the loop keeps, and how it begins, goes on and ends. And the block that a row begins.
 -- Assumes nothing.
-use Prim.Native.Nat.{ℕ, suc, _+_, _-_, _≤_, _<_}
+use Prim.Native.Nat.{ℕ, _+_, _-_, _<_}
 use native.Mathlib.Omega.{arith}
 use native.Mathlib.Numerals.{add-one}
-use mathlib.Core.Bool.{Bool, true, false}
+use mathlib.Core.Bool.{true, false}
 use mathlib.Core.Path.{_≡_, refl, sym, ap, _∙_, subst}
 use mathlib.Core.List.{List, [], _∷_, _++_, append-nil, append-assoc, List·Memᴰ}
-use mathlib.Core.Logic.{_⊎_, inl, inr}
+use mathlib.Core.Logic.{inl, inr}
 use lib.ListN.{length, take, set, length-append, length-set}
 use lib.Seq.{take-set-le, take-suc-set, take-take}
 use Rattle.theory.specs.Jobs.{Job, finish}
@@ -16,8 +16,8 @@ use Rattle.schedule.specs.Picks.{firstPick, decided, run, block}
 use Rattle.schedule.specs.Columns.{Limits}
 use Rattle.schedule.specs.Offset.{deskAfter}
 use Rattle.picks.specs.declared.Standing.{Standing}
-use Rattle.picks.specs.Standing.{Tables, Sits, Taken}
-use Rattle.core.specs.Taking.{deskThrough, Stuck, Moved, Ran}
+use Rattle.picks.specs.Standing.{Sits, Taken}
+use Rattle.core.specs.Taking.{deskThrough, Stuck, Ran}
 use Rattle.core.proofs.Signs.{through-grows, through-append}
 use Rattle.core.proofs.Runs.{run-none, run-undecided, run-takes}
 

@@ -1,30 +1,20 @@
 -- The trail: what a block more, a smaller bound and a step back make of it, and what the words of a block hold.
 -- Assumes nothing.
-use Prim.Native.Nat.{ℕ, zero, suc, _+_, _-_, _*_, _≤_, _<_}
+use Prim.Native.Nat.{ℕ, zero, suc, _-_, _≤_, _<_}
 use native.Mathlib.Omega.{arith}
-use mathlib.Core.Bool.{Bool, true, false, cond}
-use mathlib.Core.Path.{_≡_, refl, sym, ap, _∙_, subst}
-use mathlib.Core.List.{List, [], _∷_}
-use mathlib.Core.Logic.{_⊎_, inl, inr}
-use mathlib.Core.Option.{none}
+use mathlib.Core.Bool.{Bool, true, false}
+use mathlib.Core.Path.{_≡_, refl, sym, subst}
+use mathlib.Core.List.{List, []}
 use lib.Dec.{leb}
-use lib.ListN.{length, getD, set}
-use lib.Seq.{getD-set-same, getD-set-other}
+use lib.ListN.{getD, set}
+use lib.Seq.{getD-set-other}
 use borrow.Author.Tests.{leb-true, leb-false}
 use Rattle.theory.specs.Jobs.{Job}
-use Rattle.schedule.specs.declared.Desk.{Desk}
-use Rattle.schedule.specs.Picks.{decided, blockOne, blockTwo}
 use Rattle.schedule.specs.Columns.{at, Limits}
 use Rattle.picks.specs.declared.Standing.{Standing}
-use Rattle.picks.specs.Bits.{bit}
 use Rattle.picks.specs.Standing.{Tables, Sits}
-use Rattle.core.specs.declared.Block.{Block}
-use Rattle.core.specs.declared.Reached.{Reached}
-use Rattle.core.specs.Taking.{deskThrough, Stuck, Moved, Ran, Stepped}
-use Rattle.core.specs.Answers.{orderOf}
-use Rattle.core.specs.Trails.{wordsOf, wordsAt, worstAt, Fits, Back, Way, Entry, Held, Here, Came, Found, Lowered}
-use Rattle.core.proofs.Picked.{apart}
-use Rattle.core.proofs.Ways.{way-less, way-one, way-two, way-none}
+use Rattle.core.specs.Trails.{wordsAt, worstAt, Fits, Back, Entry, Held}
+use Rattle.core.proofs.Ways.{way-less}
 
 -- What a desk is within fits its words.
 pub sits-fit : (n : ℕ) (job : ℕ → Job) (by : ℕ → ℕ) → Tables n job by → (rest : List ℕ) (s : Standing) → Sits n job by rest s → Fits s

@@ -1,11 +1,10 @@
 -- The way to the order for a bound and for each smaller one: how it begins with the opening run, goes on with a block, and ends.
 -- Assumes nothing.
-use Prim.Native.Nat.{ℕ, zero, suc, _+_, _-_, _*_, _≤_, _<_}
+use Prim.Native.Nat.{ℕ, zero, suc, _+_, _≤_, _<_}
 use native.Mathlib.Omega.{arith}
 use mathlib.Core.Bool.{Bool, true, false, _&&_}
 use mathlib.Core.Path.{_≡_, refl, sym, ap, _∙_, subst}
 use mathlib.Core.List.{List, [], _∷_, _++_, append-nil, append-assoc}
-use mathlib.Core.Logic.{_⊎_, inl, inr}
 use mathlib.Core.Option.{Option, none, some}
 use lib.Dec.{leb}
 use lib.IntN.{ℤ}
@@ -14,20 +13,18 @@ use borrow.Author.Tests.{le-leb, lt-leb}
 use Rattle.theory.specs.Jobs.{Job}
 use Rattle.schedule.specs.declared.Desk.{Desk}
 use Rattle.schedule.specs.Rows.{countFrom, withoutAll}
-use Rattle.schedule.specs.Desk.{endOf, keeps, pairOf}
-use Rattle.schedule.specs.Picks.{joined, decided, run, block, blockOne, blockTwo, blocksFor, orderFor}
+use Rattle.schedule.specs.Desk.{endOf, keeps}
+use Rattle.schedule.specs.Picks.{joined, run, block, blockOne, blockTwo, blocksFor, orderFor}
 use Rattle.schedule.specs.Columns.{Limits}
-use Rattle.schedule.specs.Offset.{lowered, raised, deskAt}
+use Rattle.schedule.specs.Offset.{lowered, deskAt}
 use Rattle.schedule.proofs.Numbers.{length-count}
 use Rattle.schedule.proofs.Search.{blocks-one, blocks-two, blocks-none}
 use Rattle.picks.specs.declared.Standing.{Standing}
-use Rattle.picks.specs.Standing.{Tables, Sits}
-use Rattle.core.specs.declared.Planned.the-variants.{Kept, Unkept}
-use Rattle.core.specs.Taking.{deskThrough, Stuck, Moved}
-use Rattle.core.specs.Answers.{orderOf, plannedOf, Paired}
+use Rattle.picks.specs.Standing.{Sits}
+use Rattle.core.specs.Taking.{deskThrough, Moved}
+use Rattle.core.specs.Answers.{orderOf}
 use Rattle.core.specs.Trails.{Way}
-use Rattle.core.proofs.Signs.{through-minute, through-within, through-grows, through-late, through-append, followed-end, followed-raised}
-use Rattle.core.proofs.Steps.{without-append}
+use Rattle.core.proofs.Signs.{through-minute, through-within, through-grows, through-append}
 
 no-rows : (js : List ℕ) → length js ≡ 0 → js ≡ []
 no-rows [] e = refl

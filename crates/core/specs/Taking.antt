@@ -1,7 +1,7 @@
 -- What runs and blocks make of a desk in planning: the desk, the rows left over and the order so far, within a bound.
 -- Rows are numbered by rank. Rests on: the schedule's desk, picks and blocks, and the desk in planning.
 use Prim.Native.Nat.{ℕ, _+_, _≤_, _<_}
-use mathlib.Core.Bool.{Bool, true, false}
+use mathlib.Core.Bool.{true, false}
 use mathlib.Core.Path.{_≡_}
 use mathlib.Core.List.{List, [], _∷_, _++_}
 use mathlib.Core.Logic.{_⊎_}

@@ -1,10 +1,9 @@
 -- The way to a plan: the blocks from the opening run on, as the trail holds them, so that a smaller bound goes on from one of them.
 -- Rows are numbered by rank. Rests on: Taking, Answers.
-use Prim.Native.Nat.{ℕ, zero, suc, _+_, _≤_, _<_}
+use Prim.Native.Nat.{ℕ, zero, suc, _≤_, _<_}
 use mathlib.Core.Bool.{Bool, true, false, cond}
 use mathlib.Core.Path.{_≡_}
 use mathlib.Core.List.{List, [], _∷_}
-use mathlib.Core.Logic.{_⊎_}
 use mathlib.Core.Option.{none}
 use lib.ListN.{length, getD}
 use Rattle.theory.specs.Jobs.{Job}

@@ -11,6 +11,7 @@ use std::hint::black_box;
 use std::time::{Duration, Instant};
 
 const SIZES: [usize; 4] = [8, 32, 128, 256];
+const PLANS: [usize; 5] = [2, 8, 32, 128, 230];
 const RUNS: usize = 9;
 const CALLS: [&str; 4] = [
     "list",
@@ -121,6 +122,23 @@ fn main() {
             all.push(times);
         }
         growth.push((name, all));
+    }
+    println!("\nThe list of 256 rows as its plans grow in number:\n");
+    println!("| plans | archive µs | model µs | model / archive |");
+    println!("|---:|---:|---:|---:|");
+    for plans in PLANS {
+        let book = books::plans_among(MAX_ROWS, plans).words();
+        let (mut a, mut b) = ([0; 2 * MAX_ROWS], [0; 2 * MAX_ROWS]);
+        assert_eq!(linked::list(&book, &mut a), model::list(&book, &mut b));
+        assert_eq!(a, b);
+        let (archive, model) = time(
+            || linked::list(black_box(&book), &mut a),
+            || model::list(black_box(&book), &mut b),
+        );
+        println!(
+            "| {plans} | {archive:.2} | {model:.2} | {:.1} |",
+            model / archive
+        );
     }
     println!("\nHow the archive's time grows with the rows (and the model's):\n");
     println!("| day | call | 8 to 32 | 32 to 128 | 128 to 256 |");

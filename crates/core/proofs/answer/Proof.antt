@@ -1,6 +1,5 @@
 -- `answer` meets its contract: one test decides it.
 -- Assumes nothing.
-use lib.Dec.{leb}
 use mathlib.Core.Bool.{Bool, cond}
 use mathlib.Core.Path.{sym, ap}
 use borrow.Author.Tests.{le-leb, lt-leb}

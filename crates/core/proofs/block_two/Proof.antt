@@ -2,7 +2,7 @@
 -- Assumes nothing.
 use Rattle.core.proofs.block_two.Statement.{statement}
 use Rattle.core.proofs.block_two.Tie as tie
-use Rattle.core.proofs.Picked.{first-mem, second-mem, torn-first, torn-second}
+use Rattle.core.proofs.Picked.{second-mem, torn-second}
 use Rattle.core.proofs.Blocks.{two-ran}
 
 picks-requires : tie.Need-picks-requires

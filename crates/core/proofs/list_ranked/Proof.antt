@@ -1,7 +1,7 @@
 -- `list_ranked` meets its contract: what is listed so far, and what smaller bounds still give, is the list of plans. The bound falls.
 -- Assumes nothing.
 use borrow.Author.Needs.{needs}
-use Prim.Native.Nat.{ℕ, _-_}
+use Prim.Native.Nat.{ℕ}
 use mathlib.Core.Path.{_≡_, refl, sym, _∙_, subst}
 use native.Mathlib.Omega.{arith}
 use lib.ListN.{length-replicate}
@@ -13,7 +13,8 @@ use Rattle.core.specs.Trails.{Found}
 use Rattle.core.proofs.list_ranked.Statement.{statement}
 use Rattle.core.proofs.list_ranked.Tie as tie
 use Rattle.core.proofs.Lists.{Listing, listing-first, listing-last, listing-room, listing-next}
-use Rattle.core.proofs.Searches.{came-first, answers, lowers}
+use Rattle.core.proofs.Searches.{came-first, answers}
+use Rattle.core.proofs.Resumed.{lowers}
 
 abbrev Inv-loop : tie.InvT-loop
 Inv-loop release length due by n free order₀ trail₀ ends₀ lates₀ count₀ bound₀ reached₀ order trail ends lates count bound reached =

@@ -1,14 +1,14 @@
 -- `resume` meets its contract: it goes on from the first block that holds the worst lateness, with block two, or leaves the search as it is.
 -- Assumes nothing.
 use borrow.Author.Needs.{needs}
-use Prim.Native.Nat.{ℕ, suc, _-_}
+use Prim.Native.Nat.{suc, _-_}
 use mathlib.Core.Path.{_≡_}
 use native.Mathlib.Omega.{arith}
 use lib.ListN.{length-set}
 use Rattle.core.proofs.resume.Statement.{statement}
 use Rattle.core.proofs.resume.Tie as tie
 use Rattle.core.proofs.Trails.{sits-fit}
-use Rattle.core.proofs.Searches.{lowered-room, found-opening, block-from, found-two, from-sits, from-torn, came-resumed}
+use Rattle.core.proofs.Resumed.{lowered-room, found-opening, block-from, found-two, from-sits, from-torn, came-resumed}
 
 back-to-requires : tie.Need-back-to-requires
 back-to-requires c κs =

@@ -1,6 +1,5 @@
 -- `picks::take` meets its contract: the row is one of the rows, the numbers fit, and it is in the set once the desk has moved on.
 -- Assumes nothing.
-use borrow.Author.Needs.{needs}
 use native.Mathlib.Omega.{arith}
 use Rattle.picks.proofs.Takes.{row-high, can-take, at-end, can-clear, taken}
 use Rattle.picks.proofs.take.Statement.{statement}
