@@ -1,6 +1,7 @@
 pub mod Signed
 pub mod Tests
 pub mod Scans
+pub mod Columns
 pub mod Tables
 pub mod NearestMinute
 pub mod Reached

@@ -12,13 +12,14 @@ use Rattle.book.specs.declared.Tested.the-variants.{Passed, Refused}
 use Rattle.book.specs.declared.Table.{Table}
 use Rattle.book.specs.declared.Reading.{Reading}
 use Rattle.book.specs.Words.{value, word}
-use Rattle.book.specs.Rows.{Contents, refused, accepted, refusedOr}
+use Rattle.book.specs.Rows.{Contents, refused, accepted}
 use Rattle.book.specs.Order.{orderTests}
-use Rattle.book.specs.Book.{headTests, inOrder, readWords, readBook, tableOf, tableRows, readingOf, settledOf}
+use Rattle.book.specs.Columns.{AllLimited}
+use Rattle.book.specs.Book.{headTests, inOrder, readWords, readBook, tableOf, tableRows, readingOf}
 use Rattle.book.specs.Accepted.{AcceptedBook}
 use Rattle.book.proofs.Tests.{never}
 use Rattle.book.proofs.Tables.{row-at, table-rows, table-places}
-use Rattle.book.proofs.Whole.{taken, bookRows}
+use Rattle.book.proofs.Whole.{Paced, taken, bookRows}
 use Rattle.book.proofs.Accepted.{accepted-book}
 
 -- The head: it is refused; it passed, and the rows and the order are left.
@@ -31,29 +32,37 @@ pub head-passed : (ws : List ℕ) (o : Tested) → o ≡ headTests ws → o ≡ 
 unfolding readBook readWords
 head-passed ws o e f = rw (← e, f)
 
--- The order of the rows: the rows are refused before it; or it is tested.
+-- The order of the rows: the rows are refused before it; they pass it; they fail it.
 pub order-refused : (x : Contents) (n p : ℕ) → readingOf x .outcome ≡ Refused n p → readingOf x ≡ readingOf (inOrder x)
 unfolding readingOf inOrder
 order-refused (refused m q) n p e = refl
 order-refused (accepted free rows) n p e = never (cc)
 
-pub order-settled : (x : Contents) → readingOf x .outcome ≡ Passed → settledOf (orderTests (tableRows (readingOf x .table))) (readingOf x .table) ≡ readingOf (inOrder x)
+pub order-kept : (x : Contents) → readingOf x .outcome ≡ Passed → orderTests (tableRows (readingOf x .table)) ≡ Passed → readingOf x ≡ readingOf (inOrder x)
 unfolding readingOf inOrder
-order-settled (refused m q) e = never (cc)
-order-settled (accepted free rows) e = rw (table-rows free rows) (go (orderTests rows))
-  where
-    go : (o : Tested) → settledOf o (tableOf free rows) ≡ readingOf (refusedOr o (accepted free rows))
-    go Passed = refl
-    go (Refused n p) = refl
+order-kept (refused m q) e o = never (cc)
+order-kept (accepted free rows) e o = rw (rw (table-rows free rows) at o)
 
--- A reading's table has at most 256 rows.
-reading-few : (x : Contents) → ((f : ℕ) (rs : List Row) → x ≡ accepted f rs → length rs ≤ 256) → readingOf x .table .count ≤ 256
+pub order-failed : (x : Contents) (n p : ℕ) → readingOf x .outcome ≡ Passed → orderTests (tableRows (readingOf x .table)) ≡ Refused n p →
+    _≡_ {A = Reading} (record { outcome = Refused n p; table = tableOf 0 [] }) (readingOf (inOrder x))
+unfolding readingOf inOrder
+order-failed (refused m q) n p e o = never (cc)
+order-failed (accepted free rows) n p e o = rw (rw (table-rows free rows) at o)
+
+-- A reading's table has at most 256 rows, and they keep their limits.
+abbrev pub Fits : Table → Type 0
+Fits t = (t .count ≤ 256) × AllLimited (tableRows t)
+
+reading-fits : (x : Contents) → ((f : ℕ) (rs : List Row) → x ≡ accepted f rs → (length rs ≤ 256) × AllLimited rs) → Fits (readingOf x .table)
 unfolding readingOf tableOf
-reading-few (refused m q) h = omega arith
-reading-few (accepted free rows) h = h free rows refl
+reading-fits (refused m q) h = (omega arith, λ i l. let x : ⊥ = omega arith in absurd x)
+reading-fits (accepted free rows) h = let g = h free rows refl in (g .0, rw (table-rows free rows) (g .1))
 
-pub rows-few : (ws : List ℕ) → readingOf (bookRows ws) .table .count ≤ 256
-rows-few ws = reading-few (bookRows ws) (λ f rs e. taken 257 (value (word ws 0)) (value (word ws 1)) [] 2 (drop 2 ws) f rs refl e .few)
+pub rows-fit : (ws : List ℕ) → Paced (value (word ws 1)) → Fits (readingOf (bookRows ws) .table)
+rows-fit ws p =
+    reading-fits (bookRows ws) (λ f rs e.
+    let t = taken 257 (value (word ws 0)) (value (word ws 1)) [] 2 (drop 2 ws) f rs refl e in
+    (t .few, λ i l. let r = t .ranged p (λ j m. let x : ⊥ = omega arith in absurd x) i l in (r .release, r .most, r .due)))
 
 -- What a caller knows of a reading that passed: the table's rows are those that the definition gives, they agree and are in range, and each is found at its place.
 pub record Given (ws : List ℕ) (t : Table) : Type 0 where

@@ -3,8 +3,8 @@
 use Prim.Native.Nat.{ℕ, suc, _+_, _*_, _≤_, _<_}
 use native.Mathlib.Omega.{arith}
 use native.Mathlib.Numerals.{add-one}
-use mathlib.Core.Bool.{Bool, true, false, _||_}
-use mathlib.Core.Path.{_≡_, refl, ap}
+use mathlib.Core.Bool.{Bool, true, false, _||_, or-false, or-assoc}
+use mathlib.Core.Path.{_≡_, refl, sym, ap}
 use mathlib.Core.List.{List, [], _∷_, _++_}
 use lib.Dec.{eqb}
 use lib.ListN.{length, take, drop, getD, drop-of-length-le}
@@ -17,19 +17,14 @@ use Rattle.book.specs.Refusals.{byDisorder, refuseIf, _then_}
 use Rattle.book.specs.Rows.{any, stands}
 use Rattle.book.specs.Order.{disagree, disorderFrom}
 
--- The scan for an entry: the one at i passes the test; it does not; all entries are passed over.
-module _ {A : Type 0} (test : A → Bool) (xs : List A) (none : A) (i : ℕ) where
-  pub any-here : i < length xs → test (getD xs i none) ≡ true → any test (drop i xs) ≡ true
-  unfolding any
-  any-here h e = rw (drop-cons xs i none h, e)
+-- The scan for an entry: one entry more.
+any-more : {A : Type 0} (test : A → Bool) (xs : List A) (x : A) → any test (xs ++ (x ∷ [])) ≡ (any test xs || test x)
+unfolding any
+any-more test [] x = or-false (test x)
+any-more test (y ∷ ys) x = rw (any-more test ys x) (sym (or-assoc (test y) (any test ys) (test x)))
 
-  pub any-on : i < length xs → test (getD xs i none) ≡ false → any test (drop i xs) ≡ any test (drop (i + 1) xs)
-  unfolding any
-  any-on h e = rw (add-one, drop-cons xs i none h, e)
-
-  pub any-end : length xs ≤ i → any test (drop i xs) ≡ false
-  unfolding any
-  any-end h = rw (drop-of-length-le xs h)
+pub any-on : {A : Type 0} (test : A → Bool) (xs : List A) (none : A) (i : ℕ) → i < length xs → any test (take (i + 1) xs) ≡ (any test (take i xs) || test (getD xs i none))
+any-on test xs none i h = rw (add-one, take-suc xs i none h) (any-more test (take i xs) (getD xs i none))
 
 -- Whether a number stands among no numbers, and among one more.
 pub stands-none : (n : ℕ) → stands n [] ≡ false

@@ -11,7 +11,7 @@ use borrow.Author.Tests.{le-ltb, lt-ltb, ltb-true, ltb-false}
 use Rattle.schedule.proofs.Signed.{sub-cases}
 
 -- Two comparisons that hold together are equal.
-ltb-same : (x y u v : ℕ) → (x < y → u < v) → (u < v → x < y) → ltb x y ≡ ltb u v
+pub ltb-same : (x y u v : ℕ) → (x < y → u < v) → (u < v → x < y) → ltb x y ≡ ltb u v
 ltb-same x y u v f g = go (ltb u v) (λ e. lt-ltb x y (g (ltb-true u v e))) (λ e. le-ltb x y (back (ltb-false u v e)))
   where
     back : v ≤ u → y ≤ x

@@ -3,6 +3,7 @@ pub mod Words
 pub mod Due
 pub mod Rows
 pub mod Order
+pub mod Columns
 pub mod Book
 pub mod Disorder
 pub mod Accepted

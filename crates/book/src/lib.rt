@@ -1,13 +1,16 @@
 // The reader: turns a lent book of 32-bit words into the table of its rows, or refuses it with a number and a place.
 ghost use mathlib.Core.Path.{_≡_};
 ghost use Prim.Native.Nat.{_≤_, _<_};
+ghost use mathlib.Core.Bool.{false};
 ghost use mathlib.Core.List.{[]};
 ghost use lib.ListN.{length, take, drop};
+ghost use Rattle.schedule.specs.Rows.{noRow};
 ghost use Rattle.book.specs.Refusals.{refuseIf, _then_};
 ghost use Rattle.book.specs.Words.{kind, value, word, outside, kindTests, wordTests};
 ghost use Rattle.book.specs.Due.{margin, classOf, dueTests, Margined, dueBy};
 ghost use Rattle.book.specs.Rows.{stands, numberTests, rowTests, lengthOf, rowOf, rowReadOf, endStands, endTests, readRows};
-ghost use Rattle.book.specs.Order.{tighter, disagree, orderTests};
+ghost use Rattle.book.specs.Order.{orderTests};
+ghost use Rattle.book.specs.Columns.{Limited, AllLimited, raisedSpare, crosses, crossed};
 ghost use Rattle.book.specs.Book.{headTests, readBook, tableOf, tableRows, readingOf, settledOf, rowPlace, rowWords};
 use schedule::Class;
 use schedule::Desk;
@@ -90,18 +93,25 @@ impl Table {
     fn empty(free: u32) -> Table
         ensures { λ r. ⌜ r ≡ tableOf free [] ⌝ }
     {
-        let none = Row {
-            number: 0,
-            release: 0,
-            length: 0,
-            due: 0,
-            class: Class::None,
-        };
+        let none = no_row();
         Table {
             free: free,
             count: 0,
             rows: [none; Desk::ROWS],
         }
+    }
+}
+
+// What stands in a place that holds no row.
+fn no_row() -> Row
+    ensures { λ r. ⌜ r ≡ noRow ⌝ }
+{
+    Row {
+        number: 0,
+        release: 0,
+        length: 0,
+        due: 0,
+        class: Class::None,
     }
 }
 
@@ -177,19 +187,18 @@ fn word_tests(kind: u32, lo: u32, hi: u32, place: usize, rest: &[u32], i: usize)
     )
 }
 
-// The number stands among the first `count` numbers.
+// The number stands among the first `count` numbers. The loop goes on where it is found: so it has no branch, and several places are compared at a time.
 fn number_stands(numbers: &[u32; Desk::ROWS], count: usize, number: u32) -> bool
     requires { ⌜ (count ≤ 256) × (length (now numbers) ≡ 256) ⌝ }
     ensures { λ r. ⌜ r ≡ stands number (take count (now (numbers .entry))) ⌝ }
 {
+    let mut found = false;
     let mut i = 0;
     while i < count {
-        if number == numbers[i] {
-            return true;
-        }
+        found = found | (number == numbers[i]);
         i += 1;
     }
-    false
+    found
 }
 
 // Cut, kind, full and twice at a number word.
@@ -353,80 +362,112 @@ fn settled(outcome: Tested, table: Table) -> Reading
 }
 
 // The rows and the end, from word 2 on. After each row the rest of the book is read on as a part of its own.
-// The order numbers stand in a column beside the table, which the row reader is lent instead of the table.
+// The order numbers stand in a column beside the rows, which the row reader is lent instead of the rows. The table is made at the end: a copy less.
 fn read_rows(free: u32, pace: u32, book: &[u32]) -> Reading
     requires { ⌜ (2 ≤ length (now book)) × (4 ≤ pace) × (pace ≤ 120) ⌝ }
     ensures { λ r. ⌜ r ≡ readingOf (readRows 257 free pace [] 2 (drop 2 (now (book .entry)))) ⌝ }
 {
-    let mut table = Table::empty(free);
+    let none = no_row();
+    let mut rows: [Row; Desk::ROWS] = [none; Desk::ROWS];
     let mut numbers: [u32; Desk::ROWS] = [0; Desk::ROWS];
+    let mut count: usize = 0;
     let mut at: usize = 2;
     loop {
-        let count = table.count;
         let rest = &book[at..];
         if end_stands(count, rest) {
+            let table = Table {
+                free: free,
+                count: count,
+                rows: rows,
+            };
             return settled(end_tests(count, at, rest), table);
         }
         match read_row(&numbers, count, pace, at, rest) {
             RowRead::Whole(row) => {
                 numbers[count] = row.number;
-                table.rows[count] = row;
-                table.count = count + 1;
+                rows[count] = row;
             }
             RowRead::Refused(n, p) => {
                 return refused(Tested::Refused(n, p));
             }
         }
+        count += 1;
         at += 4;
     }
 }
 
-// So wide that the sums below fit.
-fn wide(x: u32) -> u64
-    ensures { λ r. ⌜ r ≡ x ⌝ }
+// The spare of a row, raised so that it is never below 0.
+fn spare_of(r: Row) -> u32
+    requires { ⌜ Limited r ⌝ }
+    ensures { λ s. ⌜ s ≡ raisedSpare r ⌝ }
 {
-    x as u64
+    r.due + 10_030_000 - (r.release + r.length)
 }
 
-// Row r has the smaller due and also the smaller spare. Spares are compared by crossed sums, so that no difference is taken. Here and below both sides are
-// worked out, since a branch that goes either way from pair to pair costs more.
-fn is_tighter(r: Row, s: Row) -> bool
-    ensures { λ b. ⌜ b ≡ tighter r s ⌝ }
+// One due is the smaller and its spare too. Here and below every side is worked out: a branch that goes either way from pair to pair costs more.
+fn is_crossed(due: u32, spare: u32, d: u32, s: u32) -> bool
+    ensures { λ r. ⌜ r ≡ crosses due spare d s ⌝ }
 {
-    let due = r.due < s.due;
-    let spare = wide(r.due) + (wide(s.release) + wide(s.length))
-        < wide(s.due) + (wide(r.release) + wide(r.length));
-    due & spare
+    (due < d) & (spare < s) | (d < due) & (s < spare)
 }
 
-// Two rows disagree if one has the smaller due and also the smaller spare.
-fn rows_disagree(r: Row, s: Row) -> bool
-    ensures { λ b. ⌜ b ≡ disagree r s ⌝ }
+// A due and a spare against the columns up to `end`; those below `from` are known not to be crossed. The loop goes on where one is: so it has no branch, and
+// several places are compared at a time.
+fn is_crossed_by(
+    dues: &[u32; Desk::ROWS],
+    spares: &[u32; Desk::ROWS],
+    from: usize,
+    end: usize,
+    due: u32,
+    spare: u32,
+) -> bool
+    requires { ⌜ (from ≤ end) × (end ≤ 256) × (length (now dues) ≡ 256) × (length (now spares) ≡ 256) × (crossed (now dues) (now spares) due spare from ≡ false) ⌝ }
+    ensures { λ r. ⌜ r ≡ crossed (now (dues .entry)) (now (spares .entry)) due spare end ⌝ }
 {
-    is_tighter(r, s) | is_tighter(s, r)
+    let mut found = false;
+    let mut j = from;
+    while j < end {
+        found = found | is_crossed(due, spare, dues[j], spares[j]);
+        j += 1;
+    }
+    found
 }
 
-// Disorder in the rows of a table: each row against the rows above it, up to the first that disagrees with one of them.
+// The end of the stretch from a place on: 128 places, or those that are left.
+fn stretch_end(from: usize, end: usize) -> usize
+    requires { ⌜ from < end ⌝ }
+    ensures { λ r. ⌜ (from < r) × (r ≤ end) ⌝ }
+{
+    if end - from < 128 { end } else { from + 128 }
+}
+
+// Disorder in the rows of a table: each row against the rows above it, a stretch of them at a time, up to the first that disagrees with one of them. The dues
+// and the spares of the rows above stand in two columns.
 fn order_tests(table: Table) -> Tested
-    requires { ⌜ table .count ≤ 256 ⌝ }
+    requires { ⌜ (table .count ≤ 256) × AllLimited (tableRows table) ⌝ }
     ensures { λ r. ⌜ r ≡ orderTests (tableRows table) ⌝ }
 {
     let count = table.count;
+    let mut dues: [u32; Desk::ROWS] = [0; Desk::ROWS];
+    let mut spares: [u32; Desk::ROWS] = [0; Desk::ROWS];
     let mut i = 0;
     'rows: loop {
         if count <= i {
             break 'rows Tested::Passed;
         }
         let r = table.rows[i];
+        let spare = spare_of(r);
         let mut j = 0;
         while j < i {
-            let s = table.rows[j];
-            if rows_disagree(r, s) {
+            let end = stretch_end(j, i);
+            if is_crossed_by(&dues, &spares, j, end, r.due, spare) {
                 let place = 4 * i + 2;
                 break 'rows Tested::Refused(Tested::DISORDER, place);
             }
-            j += 1;
+            j = end;
         }
+        dues[i] = r.due;
+        spares[i] = spare;
         i += 1;
     }
 }
@@ -455,8 +496,11 @@ pub fn read(book: &[u32]) -> Reading
     let Tested::Passed = outcome else {
         return all;
     };
-    let table = all.table;
-    settled(order_tests(table), table)
+    let order = order_tests(all.table);
+    let Tested::Passed = order else {
+        return refused(order);
+    };
+    all
 }
 
 // The place of a row's number word, rows counted from 1, or the refusal.

@@ -2,58 +2,60 @@
 -- Assumes nothing.
 use Prim.Native.Nat.{_≤_, _<_, _-_}
 use native.Mathlib.Omega.{arith}
-use mathlib.Core.Bool.{Bool, true, false}
+use mathlib.Core.Bool.{false}
 use mathlib.Core.Path.{_≡_, sym, _∙_}
-use lib.ListN.{length, take, drop, getD, length-take}
-use lib.Seq.{getD-take}
+use lib.ListN.{length, take, getD}
 use borrow.Author.Needs.{needs}
 use Rattle.schedule.specs.Rows.{noRow}
 use Rattle.book.specs.Rows.{any}
 use Rattle.book.specs.Order.{disagree, orderTests}
+use Rattle.book.specs.Columns.{crossed}
 use Rattle.book.specs.Book.{tableRows}
-use Rattle.book.proofs.Scans.{any-here, any-on, any-end, disorderAt, order-here, order-on, order-end}
+use Rattle.book.proofs.Scans.{disorderAt, order-here, order-on, order-end}
+use Rattle.book.proofs.Columns.{crossed-none, crossed-below, Columned, columned-none, columned-on, crossed-any}
 use Rattle.book.proofs.Tables.{all-places, rows-length, row-at}
 use Rattle.book.proofs.order_tests.Statement.{statement}
 use Rattle.book.proofs.order_tests.Tie as tie
 
--- Row i against the rows above it from j on.
+-- Row i crosses none of the columns below j.
 abbrev Inv-loop : tie.InvT-loop
-Inv-loop table count i r j₀ j =
-    let rows = tableRows table in
-    let test = disagree (getD rows i noRow) in
-    (j ≤ i) × (any test (take i rows) ≡ any test (drop j (take i rows)))
+Inv-loop table count dues spares i r spare j₀ j = (j ≤ i) × (crossed dues spares (r .due) spare j ≡ false)
 
 abbrev μ-loop : tie.MeasureT-loop
-μ-loop table count i r j₀ j = i - j
+μ-loop table count dues spares i r spare j₀ j = i - j
 
+-- The columns hold the rows above i, and the scan goes on at i.
 abbrev Inv-rows : tie.InvT-rows
-Inv-rows table count i₀ i = (i ≤ count) × (orderTests (tableRows table) ≡ disorderAt (tableRows table) i)
+Inv-rows table count dues₀ spares₀ i₀ dues spares i =
+    let rows = tableRows table in
+    (i ≤ count) × Columned rows i dues spares × (orderTests rows ≡ disorderAt rows i)
 
 abbrev μ-rows : tie.MeasureT-rows
-μ-rows table count i₀ i = count - i
+μ-rows table count dues₀ spares₀ i₀ dues spares i = count - i
 
 size : (s : tie.Start Inv-loop μ-loop Inv-rows μ-rows) → length (tableRows (s .args .t1)) ≡ s .args .t1 .count
-size s = rows-length (s .args .t1) (s .pre) (all-places (s .args .t1 .rows) (s .good .0 .1 .1 .1 .1 .0 .1 .0 .1))
+size s = rows-length (s .args .t1) (s .pre .0) (all-places (s .args .t1 .rows) (s .good .0 .1 .1 .1 .1 .0 .1 .0 .1))
 
--- What the comparison of the row in place i with the one in place j above it says of the table's rows.
-compared : (x : tie.After-rows-disagree Inv-loop μ-loop Inv-rows μ-rows) (b : Bool) → x .rows-disagree .result ≡ b →
-    let i = x .before .before .before .before .before .before .rows .i in
-    let j = x .before .before .before .loop .j in
-    let rows = tableRows (x .before .before .before .before .before .before .before .args .t1) in
-    (j < length (take i rows)) × (disagree (getD rows i noRow) (getD (take i rows) j noRow) ≡ b)
-compared x b e =
-    let s = x .before .before .before .before .before .before .before in
-    let i = x .before .before .before .before .before .before .rows .i in
-    let j = x .before .before .before .loop .j in
+-- Row i stands in the table.
+there : (c : tie.Else1 Inv-loop μ-loop Inv-rows μ-rows) → c .before .rows .i < length (tableRows (c .before .before .args .t1))
+there c = rw (size (c .before .before)) (c .if1 .left)
+
+-- What its comparison with the columns says of the rows above it.
+compared : (c : tie.After-spare-of Inv-loop μ-loop Inv-rows μ-rows) →
+    let o = c .before .before .before .rows in
+    let t = c .before .before .before .before .args .t1 in
+    crossed (o .dues) (o .spares) (getD (t .rows) (o .i) noRow .due) (c .spare-of .result) (o .i) ≡ any (disagree (getD (tableRows t) (o .i) noRow)) (take (o .i) (tableRows t))
+compared c =
+    let e = c .before .before in
+    let s = e .before .before in
+    let o = e .before .rows in
     let rows = tableRows (s .args .t1) in
-    let h : i < s .args .t1 .count = x .before .before .before .before .before .if1 .left in
-    let k : j < i = x .before .before .loop-test .taken in (
-      omega (arith, length-take i rows, size s),
-      rw (getD-take i rows j noRow k, row-at (s .args .t1) i h, row-at (s .args .t1) j (omega arith)) (sym (x .rows-disagree .ensures) ∙ e),
-    )
+    let all = s .pre .1 in
+    rw (c .spare-of .ensures, ← row-at (s .args .t1) (o .i) (e .if1 .left))
+    (crossed-any rows (o .i) (o .dues) (o .spares) (getD rows (o .i) noRow) all (all (o .i) (there e)) (omega (arith, there e)) (o .inv .1) (o .i) (omega arith))
 
 rows-holds : tie.Need-rows-holds Inv-loop μ-loop Inv-rows μ-rows
-rows-holds c = search needs
+rows-holds c = (search needs, columned-none (tableRows (c .args .t1)), search needs)
 
 mul-r : tie.Need-mul-r Inv-loop μ-loop Inv-rows μ-rows
 mul-r c = search needs
@@ -61,17 +63,20 @@ mul-r c = search needs
 element-copy-out-r : tie.Need-element-copy-out-r Inv-loop μ-loop Inv-rows μ-rows
 element-copy-out-r c = search needs
 
+spare-of-requires : tie.Need-spare-of-requires Inv-loop μ-loop Inv-rows μ-rows
+spare-of-requires c κs =
+    let s = c .before .before .before in
+    let o = c .before .before .rows in
+    rw (← row-at (s .args .t1) (o .i) (c .before .if1 .left)) (s .pre .1 (o .i) (there (c .before)))
+
 loop-holds : tie.Need-loop-holds Inv-loop μ-loop Inv-rows μ-rows
-loop-holds c = search needs
+loop-holds c = (search needs, crossed-none _ _ _ _)
 
-mul-s : tie.Need-mul-s Inv-loop μ-loop Inv-rows μ-rows
-mul-s c = search needs
+stretch-end-requires : tie.Need-stretch-end-requires Inv-loop μ-loop Inv-rows μ-rows
+stretch-end-requires c κs = search needs
 
-element-copy-out-s : tie.Need-element-copy-out-s Inv-loop μ-loop Inv-rows μ-rows
-element-copy-out-s c = search needs
-
-rows-disagree-requires : tie.Need-rows-disagree-requires Inv-loop μ-loop Inv-rows μ-rows
-rows-disagree-requires c κs = search needs
+is-crossed-by-requires : tie.Need-is-crossed-by-requires Inv-loop μ-loop Inv-rows μ-rows
+is-crossed-by-requires c κs = search needs
 
 mul-place : tie.Need-mul-place Inv-loop μ-loop Inv-rows μ-rows
 mul-place c = search needs
@@ -79,19 +84,23 @@ mul-place c = search needs
 add-place : tie.Need-add-place Inv-loop μ-loop Inv-rows μ-rows
 add-place c = search needs
 
-add-j : tie.Need-add-j Inv-loop μ-loop Inv-rows μ-rows
-add-j c = search needs
-
 loop-less : tie.Need-loop-less Inv-loop μ-loop Inv-rows μ-rows
 loop-less c = search needs
 
 loop-again : tie.Need-loop-again Inv-loop μ-loop Inv-rows μ-rows
-loop-again c =
-    let i = c .before .before .before .before .before .before .before .rows .i in
-    let l = c .before .before .before .before .loop in
-    let rows = tableRows (c .before .before .before .before .before .before .before .before .args .t1) in
-    let no = compared (c .before) false (c .if2 .left) in
-    (search needs, l .inv .1 ∙ any-on (disagree (getD rows i noRow)) (take i rows) noRow (l .j) (no .0) (no .1))
+loop-again c = (search needs, sym (c .before .is-crossed-by .ensures) ∙ c .if2 .left)
+
+mul-dues : tie.Need-mul-dues Inv-loop μ-loop Inv-rows μ-rows
+mul-dues c = search needs
+
+array-write-dues : tie.Need-array-write-dues Inv-loop μ-loop Inv-rows μ-rows
+array-write-dues c = search needs
+
+mul-spares : tie.Need-mul-spares Inv-loop μ-loop Inv-rows μ-rows
+mul-spares c = search needs
+
+array-write-spares : tie.Need-array-write-spares Inv-loop μ-loop Inv-rows μ-rows
+array-write-spares c = search needs
 
 add-i : tie.Need-add-i Inv-loop μ-loop Inv-rows μ-rows
 add-i c = search needs
@@ -101,30 +110,34 @@ rows-less c = search needs
 
 rows-again : tie.Need-rows-again Inv-loop μ-loop Inv-rows μ-rows
 rows-again c =
-    let s = c .before .before .before .before .before in
-    let o = c .before .before .before .before .rows in
-    let l = c .before .loop in
+    let p = c .before .before in
+    let e = p .before .before in
+    let s = e .before .before in
+    let o = e .before .rows in
     let rows = tableRows (s .args .t1) in
-    let h : o .i < length rows = rw (size s) (c .before .before .before .if1 .left) in
-    let n : length (take (o .i) rows) ≤ l .j = omega (arith, length-take (o .i) rows, c .loop-test .left) in
-    let none = l .inv .1 ∙ any-end (disagree (getD rows (o .i) noRow)) (take (o .i) rows) noRow (l .j) n in
-    (search needs, o .inv .1 ∙ order-on rows (o .i) h none)
+    let last : c .before .loop .j ≡ o .i = omega arith in
+    let none = sym (compared p) ∙ (rw last at (c .before .loop .inv .1)) in (
+      search needs,
+      rw (p .spare-of .ensures, ← row-at (s .args .t1) (o .i) (e .if1 .left)) (columned-on rows (o .i) (o .dues) (o .spares) (search needs) (o .inv .1)),
+      o .inv .2 ∙ order-on rows (o .i) (there e) none,
+    )
 
 returns : tie.Need-returns Inv-loop μ-loop Inv-rows μ-rows
 returns c =
     let s = c .before .before in
     let o = c .before .rows in
-    sym (o .inv .1 ∙ order-end (tableRows (s .args .t1)) (o .i) (rw (size s) (c .if1 .taken)))
+    sym (o .inv .2 ∙ order-end (tableRows (s .args .t1)) (o .i) (rw (size s) (c .if1 .taken)))
 
 returns-2 : tie.Need-returns-2 Inv-loop μ-loop Inv-rows μ-rows
 returns-2 c =
-    let s = c .before .before .before .before .before .before .before .before in
-    let o = c .before .before .before .before .before .before .before .rows in
-    let l = c .before .before .before .before .loop in
-    let rows = tableRows (s .args .t1) in
-    let yes = compared (c .before) true (c .if2 .taken) in
-    let found = l .inv .1 ∙ any-here (disagree (getD rows (o .i) noRow)) (take (o .i) rows) noRow (l .j) (yes .0) (yes .1) in
-    sym (o .inv .1 ∙ order-here rows (o .i) (rw (size s) (c .before .before .before .before .before .before .if1 .left)) found)
+    let x = c .before in
+    let p = x .before .before .before .before .before .before in
+    let e = p .before .before in
+    let o = e .before .rows in
+    let t = e .before .before .args .t1 in
+    let end = x .before .before .before .stretch-end in
+    let found = crossed-below (o .dues) (o .spares) (getD (t .rows) (o .i) noRow .due) (p .spare-of .result) (end .result) (o .i) (sym (x .is-crossed-by .ensures) ∙ c .if2 .taken) (end .ensures .1) in
+    sym (o .inv .2 ∙ order-here (tableRows t) (o .i) (there e) (sym (compared p) ∙ found))
 
 pub order-tests-spec : {M : Type 1} → statement M
 order-tests-spec =
@@ -137,15 +150,18 @@ order-tests-spec =
     rows-holds
     mul-r
     element-copy-out-r
+    spare-of-requires
     loop-holds
-    mul-s
-    element-copy-out-s
-    rows-disagree-requires
+    stretch-end-requires
+    is-crossed-by-requires
     mul-place
     add-place
-    add-j
     loop-less
     loop-again
+    mul-dues
+    array-write-dues
+    mul-spares
+    array-write-spares
     add-i
     rows-less
     rows-again

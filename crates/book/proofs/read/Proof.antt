@@ -6,14 +6,13 @@ use mathlib.Core.Path.{_≡_, ap, sym, _∙_}
 use borrow.Author.Needs.{needs}
 use Rattle.book.specs.declared.Tested.{Tested}
 use Rattle.book.specs.declared.Tested.the-variants.{Passed, Refused}
-use Rattle.book.specs.declared.Table.{Table}
 use Rattle.book.specs.declared.Reading.{Reading}
 use Rattle.book.specs.Words.{value, word}
 use Rattle.book.specs.Order.{orderTests}
-use Rattle.book.specs.Book.{inOrder, readBook, tableRows, readingOf, settledOf}
+use Rattle.book.specs.Book.{inOrder, readBook, tableRows, readingOf}
 use Rattle.book.proofs.Tests.{HeadFit, head-fits}
 use Rattle.book.proofs.Whole.{bookRows}
-use Rattle.book.proofs.Readings.{head-refused, head-passed, order-refused, order-settled, rows-few}
+use Rattle.book.proofs.Readings.{head-refused, head-passed, order-refused, order-kept, order-failed, rows-fit}
 use Rattle.book.proofs.read.Statement.{statement}
 use Rattle.book.proofs.read.Tie as tie
 
@@ -28,6 +27,14 @@ left : (c : tie.After-read-rows) → readBook (now (c .before .before .before .b
 left c =
     let h = c .before .before .before .before .before .before .before .head-tests in
     head-passed (now (c .before .before .before .before .before .before .before .before .before .args .book)) (h .result) (h .ensures) (c .before .before .before .before .before .enum-told .given .1)
+
+-- The rows passed tests 1 to 7; what their order gives.
+passed : (c : tie.After-order-tests) → readingOf (bookRows (now (c .before .before .before .before .before .before .before .before .before .before .before .before .args .book))) .outcome ≡ Passed
+passed c = sym (ap (λ (z : Reading). z .outcome) (rows (c .before .before .before))) ∙ c .before .enum-told3 .given .1
+
+order : (c : tie.After-order-tests) →
+    c .order-tests .result ≡ orderTests (tableRows (readingOf (bookRows (now (c .before .before .before .before .before .before .before .before .before .before .before .before .args .book))) .table))
+order c = c .order-tests .ensures ∙ ap (λ (z : Reading). orderTests (tableRows (z .table))) (rows (c .before .before .before))
 
 head-tests-requires : tie.Need-head-tests-requires
 head-tests-requires c κs = search needs
@@ -81,20 +88,33 @@ returns-2 c =
 
 order-tests-requires : tie.Need-order-tests-requires
 order-tests-requires c κs =
-    let r = c .before .before .before in
-    rw (rows r) (rows-few (now (r .before .before .before .before .before .before .before .before .before .args .book)))
+    let r = c .before .before in
+    let f = fits (r .before .before .before .before .before) in
+    rw (rows r) (rows-fit (now (r .before .before .before .before .before .before .before .before .before .args .book)) (f .pace .least, f .pace .most))
 
-settled-requires : tie.Need-settled-requires
-settled-requires c κs = search needs
+enum-told-5 : tie.Need-enum-told-5
+enum-told-5 c = search needs
+
+enum-told-6 : tie.Need-enum-told-6
+enum-told-6 c = search needs
+
+refused-requires-2 : tie.Need-refused-requires-2
+refused-requires-2 c κs = search needs
 
 returns-3 : tie.Need-returns-3
 returns-3 c =
-    let r = c .before .before .before .before .before in
+    let o = c .before .before .before in
+    let r = o .before .before .before in
     let x = bookRows (now (r .before .before .before .before .before .before .before .before .before .args .book)) in
-    let a : readingOf x .outcome ≡ Passed = sym (ap (λ (z : Reading). z .outcome) (rows r)) ∙ c .before .before .before .enum-told3 .given .1 in
-    let t : r .read-rows .result .table ≡ readingOf x .table = ap (λ (z : Reading). z .table) (rows r) in
-    c .settled .ensures ∙ ap (λ (o : Tested). settledOf o (r .read-rows .result .table)) (c .before .order-tests .ensures)
-    ∙ ap (λ (u : Table). settledOf (orderTests (tableRows u)) u) t ∙ order-settled x a ∙ ap readingOf (sym (left r))
+    let g = c .before .enum-told6 .given in
+    c .refused2 .ensures ∙ rw (g .1) (order-failed x (g .0 .0) (g .0 .1 .0) (passed o) (sym (order o) ∙ g .1)) ∙ ap readingOf (sym (left r))
+
+returns-4 : tie.Need-returns-4
+returns-4 c =
+    let o = c .before .before in
+    let r = o .before .before .before in
+    rows r ∙ order-kept (bookRows (now (r .before .before .before .before .before .before .before .before .before .args .book))) (passed o) (sym (order o) ∙ c .enum-told5 .given .1)
+    ∙ ap readingOf (sym (left r))
 
 pub read-spec : {M : Type 1} → statement M
 read-spec =
@@ -114,5 +134,8 @@ read-spec =
     enum-told-4
     returns-2
     order-tests-requires
-    settled-requires
-    returns-3)
+    enum-told-5
+    enum-told-6
+    refused-requires-2
+    returns-3
+    returns-4)

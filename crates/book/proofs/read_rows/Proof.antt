@@ -12,7 +12,7 @@ use borrow.Author.Needs.{needs}
 use Rattle.book.specs.declared.Tested.{Tested}
 use Rattle.book.specs.declared.Tested.the-variants.{Passed}
 use Rattle.book.specs.Rows.{rowTests, rowOf, rowReadOf, endStands, endTests}
-use Rattle.book.specs.Book.{settledOf}
+use Rattle.book.specs.Book.{tableOf, settledOf}
 use Rattle.book.proofs.Tests.{row-fits}
 use Rattle.book.proofs.Tables.{part-end}
 use Rattle.book.proofs.Reached.{Reached, reached-start, reached-end, reached-refused, reached-room, reached-on, whole-tests, whole-row, refused-tests}
@@ -20,35 +20,36 @@ use Rattle.book.proofs.read_rows.Statement.{statement}
 use Rattle.book.proofs.read_rows.Tie as tie
 
 abbrev Inv-loop : tie.InvT-loop
-Inv-loop free pace book table₀ numbers₀ at₀ table numbers at = (at ≤ length book) × Reached free pace (drop 2 book) table numbers at (drop at book)
+Inv-loop free pace book rows₀ numbers₀ count₀ at₀ rows numbers count at =
+    (at ≤ length book) × Reached free pace (drop 2 book) (record { free = free; count = count; rows = rows }) numbers at (drop at book)
 
 abbrev μ-loop : tie.MeasureT-loop
-μ-loop free pace book table₀ numbers₀ at₀ table numbers at = length book - at
+μ-loop free pace book rows₀ numbers₀ count₀ at₀ rows numbers count at = length book - at
 
 -- The end word does not stand at the start of the rest.
 stop : (c : tie.Else1 Inv-loop μ-loop) →
     let l = c .before .before .before .loop in
-    endStands (l .table .count) (drop (l .at) (now (c .before .before .before .before .before .before .args .book))) ≡ false
+    endStands (l .count) (drop (l .at) (now (c .before .before .before .before .before .before .args .book))) ≡ false
 stop c =
     let l = c .before .before .before .loop in
     let b = now (c .before .before .before .before .before .before .args .book) in
-    ap (endStands (l .table .count)) (sym (part-end (l .at) b)) ∙ sym (c .before .end-stands .ensures) ∙ c .if1 .left
+    ap (endStands (l .count)) (sym (part-end (l .at) b)) ∙ sym (c .before .end-stands .ensures) ∙ c .if1 .left
 
 -- What the row reader answers of the rest.
 row-is : (c : tie.After-read-row Inv-loop μ-loop) →
     let s = c .before .before .before .before .before .before .before .before .args in
     let l = c .before .before .before .before .before .loop in
     let rest = drop (l .at) (now (s .book)) in
-    c .read-row .result ≡ rowReadOf (rowTests (take (l .table .count) (l .numbers)) (l .at) rest) (rowOf (s .pace) rest)
+    c .read-row .result ≡ rowReadOf (rowTests (take (l .count) (l .numbers)) (l .at) rest) (rowOf (s .pace) rest)
 row-is c =
     let s = c .before .before .before .before .before .before .before .before .args in
     let l = c .before .before .before .before .before .loop in
-    c .read-row .ensures ∙ ap (λ (ws : List ℕ). rowReadOf (rowTests (take (l .table .count) (l .numbers)) (l .at) ws) (rowOf (s .pace) ws)) (part-end (l .at) (now (s .book)))
+    c .read-row .ensures ∙ ap (λ (ws : List ℕ). rowReadOf (rowTests (take (l .count) (l .numbers)) (l .at) ws) (rowOf (s .pace) ws)) (part-end (l .at) (now (s .book)))
 
 -- A whole row passed its tests, and has four words.
 passed : (c : tie.After-row Inv-loop μ-loop) →
     let l = c .before .before .before .before .before .before .before .loop in
-    rowTests (take (l .table .count) (l .numbers)) (l .at) (drop (l .at) (now (c .before .before .before .before .before .before .before .before .before .before .args .book))) ≡ Passed
+    rowTests (take (l .count) (l .numbers)) (l .at) (drop (l .at) (now (c .before .before .before .before .before .before .before .before .before .before .args .book))) ≡ Passed
 passed c = whole-tests _ _ _ (sym (c .row .given .1) ∙ row-is (c .before .before))
 
 long : (c : tie.After-row Inv-loop μ-loop) →
@@ -56,19 +57,20 @@ long : (c : tie.After-row Inv-loop μ-loop) →
 long c =
     let l = c .before .before .before .before .before .before .before .loop in
     let b = now (c .before .before .before .before .before .before .before .before .before .before .args .book) in
-    omega (arith, row-fits (take (l .table .count) (l .numbers)) (l .at) (drop (l .at) b) (passed c) .due .there, length-drop (l .at) b)
+    omega (arith, row-fits (take (l .count) (l .numbers)) (l .at) (drop (l .at) b) (passed c) .due .there, length-drop (l .at) b)
 
 -- There is room for it.
-room : (c : tie.After-row Inv-loop μ-loop) → c .before .before .before .before .before .before .before .loop .table .count < 256
+room : (c : tie.After-row Inv-loop μ-loop) → c .before .before .before .before .before .before .before .loop .count < 256
 room c = reached-room (c .before .before .before .before .before .before .before .loop .inv .1) (passed c)
 
-empty-requires : tie.Need-empty-requires Inv-loop μ-loop
-empty-requires c κs = search needs
+no-row-requires : tie.Need-no-row-requires Inv-loop μ-loop
+no-row-requires c κs = search needs
 
 loop-holds : tie.Need-loop-holds Inv-loop μ-loop
+unfolding tableOf
 loop-holds c =
     let s = c .before .before in
-    (s .pre .0, rw (c .empty .ensures) (reached-start (s .args .free) (s .args .pace) (drop 2 (now (s .args .book)))))
+    (s .pre .0, rw (c .no-row .ensures) (reached-start (s .args .free) (s .args .pace) (drop 2 (now (s .args .book)))))
 
 mul-rest : tie.Need-mul-rest Inv-loop μ-loop
 mul-rest c = search needs
@@ -94,11 +96,12 @@ settled-requires c κs = search needs
 returns : tie.Need-returns Inv-loop μ-loop
 returns c =
     let l = c .before .before .before .before .before .loop in
-    let b = now (c .before .before .before .before .before .before .before .before .args .book) in
-    let e : endStands (l .table .count) (drop (l .at) b) ≡ true =
-    ap (endStands (l .table .count)) (sym (part-end (l .at) b)) ∙ sym (c .before .before .before .end-stands .ensures) ∙ c .before .before .if1 .taken in
-    let o : c .before .end-tests .result ≡ endTests (l .table .count) (l .at) (drop (l .at) b) = c .before .end-tests .ensures ∙ ap (endTests (l .table .count) (l .at)) (part-end (l .at) b) in
-    c .settled .ensures ∙ ap (λ (z : Tested). settledOf z (l .table)) o ∙ reached-end (l .inv .1) e
+    let s = c .before .before .before .before .before .before .before .before .args in
+    let b = now (s .book) in
+    let e : endStands (l .count) (drop (l .at) b) ≡ true =
+    ap (endStands (l .count)) (sym (part-end (l .at) b)) ∙ sym (c .before .before .before .end-stands .ensures) ∙ c .before .before .if1 .taken in
+    let o : c .before .end-tests .result ≡ endTests (l .count) (l .at) (drop (l .at) b) = c .before .end-tests .ensures ∙ ap (endTests (l .count) (l .at)) (part-end (l .at) b) in
+    c .settled .ensures ∙ ap (λ (z : Tested). settledOf z (record { free = s .free; count = l .count; rows = l .rows })) o ∙ reached-end (l .inv .1) e
 
 read-row-requires : tie.Need-read-row-requires Inv-loop μ-loop
 read-row-requires c κs = search needs
@@ -112,14 +115,11 @@ mul-numbers c = omega (arith, room (c .before))
 array-write-numbers : tie.Need-array-write-numbers Inv-loop μ-loop
 array-write-numbers c = room (c .before)
 
-mul-row : tie.Need-mul-row Inv-loop μ-loop
-mul-row c = omega (arith, room (c .before))
+mul-rows : tie.Need-mul-rows Inv-loop μ-loop
+mul-rows c = omega (arith, room (c .before))
 
-element-set-from-row : tie.Need-element-set-from-row Inv-loop μ-loop
-element-set-from-row c = room (c .before)
-
-add-table : tie.Need-add-table Inv-loop μ-loop
-add-table c = omega (arith, room (c .before))
+array-set-from-rows : tie.Need-array-set-from-rows Inv-loop μ-loop
+array-set-from-rows c = room (c .before)
 
 enum-known-n : tie.Need-enum-known-n Inv-loop μ-loop
 enum-known-n c = search needs
@@ -132,6 +132,9 @@ returns-2 c =
     let g = c .before .before .n .given in
     let r = c .before .before .before .before in
     c .refused .ensures ∙ reached-refused (r .before .before .before .before .before .loop .inv .1) (g .0 .0) (g .0 .1 .0) (stop (r .before .before)) (refused-tests _ _ _ _ (sym (g .1) ∙ row-is r))
+
+add-count : tie.Need-add-count Inv-loop μ-loop
+add-count c = omega (arith, room (c .before))
 
 add-at : tie.Need-add-at Inv-loop μ-loop
 add-at c = omega (arith, long (c .before))
@@ -152,7 +155,7 @@ read-rows-spec =
     (tie.spec
     Inv-loop
     μ-loop
-    empty-requires
+    no-row-requires
     loop-holds
     mul-rest
     sub-rest
@@ -166,12 +169,12 @@ read-rows-spec =
     enum-known-row
     mul-numbers
     array-write-numbers
-    mul-row
-    element-set-from-row
-    add-table
+    mul-rows
+    array-set-from-rows
     enum-known-n
     refused-requires
     returns-2
+    add-count
     add-at
     loop-less
     loop-again)
