@@ -24,7 +24,7 @@ use Rattle.picks.specs.Standing.{Sits}
 use Rattle.core.specs.declared.Block.{Block}
 use Rattle.core.specs.declared.Reached.{Reached}
 use Rattle.core.specs.declared.Planned.the-variants.{Kept, Unkept}
-use Rattle.core.specs.Taking.{deskThrough, Stuck, Moved, Ran, Stepped}
+use Rattle.core.specs.Taking.{deskThrough, Stuck, After, Ran, Stepped}
 use Rattle.core.specs.Answers.{answerOf, plannedOf, orderOf, Paired}
 use Rattle.core.specs.Trails.{wordsOf, wordsAt, Way, Held, Here, Came, Found}
 use Rattle.core.proofs.Picked.{apart}
@@ -67,7 +67,7 @@ module _ (n : ℕ) (job : ℕ → Job) (by : ℕ → ℕ) (limits : Limits job) 
 
   -- The block o is taken next: where the bound is kept with it, it is on the way; otherwise no order keeps the bound.
   pub record Went (bound : ℕ) (done rest : List ℕ) (s : Standing) (order o : List ℕ) (r : Standing) (after : List ℕ) : Type 0 where
-    pub kept : r .desk .worst ≤ bound → Way n job by free bound (done ++ o) (withoutAll o rest) r × Moved n job by rest s o r × (take (r .count) after ≡ take (s .count) order ++ o)
+    pub kept : r .desk .worst ≤ bound → Way n job by free bound (done ++ o) (withoutAll o rest) r × After n job by rest s o r × (take (r .count) after ≡ take (s .count) order ++ o)
     pub over : bound < r .desk .worst → orderOf job n free bound ≡ none
 
   module _ (bound : ℕ) (done rest : List ℕ) (s : Standing) (w : Way n job by free bound done rest s) (torn : decided job (s .desk .minute) rest ≡ false) (low : s .desk .worst ≤ bound) where

@@ -21,7 +21,7 @@ use Rattle.schedule.proofs.Numbers.{length-count}
 use Rattle.schedule.proofs.Search.{blocks-one, blocks-two, blocks-none}
 use Rattle.picks.specs.declared.Standing.{Standing}
 use Rattle.picks.specs.Standing.{Sits}
-use Rattle.core.specs.Taking.{deskThrough, Moved}
+use Rattle.core.specs.Taking.{deskThrough, After}
 use Rattle.core.specs.Answers.{orderOf}
 use Rattle.core.specs.Trails.{Way}
 use Rattle.core.proofs.Signs.{through-minute, through-within, through-grows, through-append}
@@ -77,7 +77,7 @@ module _ (job : ℕ → Job) (limits : Limits job) where
     opening-over b h = order-shut (lowered b) (breaks-it b (deskAt free) opening (omega arith) h)
 
     -- After the opening run.
-    pub way-first : (bound : ℕ) (s r : Standing) → s .desk ≡ deskAt free → s .count ≡ 0 → Moved n job by all s (run job (s .desk .minute) all) r → Way n job by free bound opening (withoutAll opening all) r
+    pub way-first : (bound : ℕ) (s r : Standing) → s .desk ≡ deskAt free → s .count ≡ 0 → After n job by all s (run job (s .desk .minute) all) r → Way n job by free bound opening (withoutAll opening all) r
     way-first bound s r e c m =
         let t : run job (s .desk .minute) all ≡ opening = ap (λ (d : Desk). run job (d .minute) all) e in
         let d : r .desk ≡ deskThrough job (deskAt free) opening = m .desk ∙ λ x. deskThrough job (e x) (t x) in
@@ -179,7 +179,7 @@ module _ (job : ℕ → Job) (limits : Limits job) where
               (sym (q .rows)) (λ k l. ap (λ (f : ℕ). blocksFor job f (lowered b) now (q .i ∷ q .is)) (q .steps) ∙ blocks-none job (lowered b) m now (q .i) (q .is) k l) h g
 
         -- A block o that is the next one for all bounds that the desk r after it keeps.
-        way-block : (o : List ℕ) (r : Standing) → 1 ≤ length o → Moved n job by rest s o r →
+        way-block : (o : List ℕ) (r : Standing) → 1 ≤ length o → After n job by rest s o r →
             ((b : ℕ) → b ≤ bound → deskThrough job (s .desk) o .worst ≤ b → s .desk .worst ≤ b → blocksFor job (w .fuel) (lowered b) now rest ≡ joined o (blocksFor job m (lowered b) (endOf job now o) (withoutAll o rest))) →
             Way n job by free bound (done ++ o) (withoutAll o rest) r
         way-block o r long g steps =
@@ -199,12 +199,12 @@ module _ (job : ℕ → Job) (limits : Limits job) where
                   ap (λ (u : ℕ). joined (done ++ o) (blocksFor job m (lowered b) u (withoutAll o rest))) (sym t)));
             }
 
-        pub way-one : (r : Standing) → Moved n job by rest s one r → Way n job by free bound (done ++ one) (withoutAll one rest) r
+        pub way-one : (r : Standing) → After n job by rest s one r → Way n job by free bound (done ++ one) (withoutAll one rest) r
         unfolding blockOne
         way-one r g = way-block one r (block-some job _ now rest) g (λ b h k low. on-one b (keeps-it b (s .desk) one low k))
 
         module _ (over : bound < deskThrough job (s .desk) one .worst) where
-          pub way-two : (r : Standing) → Moved n job by rest s two r → Way n job by free bound (done ++ two) (withoutAll two rest) r
+          pub way-two : (r : Standing) → After n job by rest s two r → Way n job by free bound (done ++ two) (withoutAll two rest) r
           unfolding blockTwo
           way-two r g = way-block two r (block-some job _ now rest) g (λ b h k low. on-two b (breaks-it b (s .desk) one low (omega arith)) (keeps-it b (s .desk) two low k))
 

@@ -27,7 +27,7 @@ module _ (n : ℕ) (job : ℕ → Job) (by : ℕ → ℕ) where
   Stuck t rest = (rest ≡ []) ⊎ (decided job t rest ≡ false)
 
   -- The desk r is the desk s after the rows `taken` of the rows `rest`, and a run ends there.
-  pub record Moved (rest : List ℕ) (s : Standing) (taken : List ℕ) (r : Standing) : Type 0 where
+  pub record After (rest : List ℕ) (s : Standing) (taken : List ℕ) (r : Standing) : Type 0 where
     pub sits : Sits n job by (withoutAll taken rest) r
     pub desk : r .desk ≡ deskThrough job (s .desk) taken
     pub count : r .count ≡ s .count + length taken
@@ -35,7 +35,7 @@ module _ (n : ℕ) (job : ℕ → Job) (by : ℕ → ℕ) where
 
   -- The rows `taken` are taken as long as the bound is kept: the desk r, and the order so far as it was and as it is after.
   pub record Ran (bound : ℕ) (rest : List ℕ) (s : Standing) (taken order : List ℕ) (r : Standing) (after : List ℕ) : Type 0 where
-    pub kept : r .desk .worst ≤ bound → Moved rest s taken r × (take (r .count) after ≡ take (s .count) order ++ taken)
+    pub kept : r .desk .worst ≤ bound → After rest s taken r × (take (r .count) after ≡ take (s .count) order ++ taken)
     pub over : bound < r .desk .worst → bound < deskThrough job (s .desk) taken .worst
     pub before : take (s .count) after ≡ take (s .count) order
     pub counts : (s .count ≤ r .count) × (r .count ≤ n)

@@ -33,6 +33,11 @@ pub struct Front {
 // The largest bound: the largest signed 32-bit number, raised by 2^31.
 const LARGEST_BOUND: u32 = 4_294_967_295;
 
+// The words of the trail that are looked up by themselves: the worst lateness before a block, and whether it is block two.
+const WORST: usize = 1;
+
+const SECOND: usize = 4;
+
 // The block that is taken next: whether it is block two, and the desk after it; the bound is kept exactly if the desk's worst lateness is within it.
 struct Block {
     second: bool,
@@ -404,6 +409,28 @@ fn onward(
     }
 }
 
+// The search set out with a bound: the opening run, then blocks.
+fn set_out(
+    release: &[u32; 257],
+    length: &[u32; 257],
+    due: &[u32; 257],
+    by: &[u32; 256],
+    n: usize,
+    free: u32,
+    bound: u32,
+    order: &mut [u32; 256],
+    trail: &mut [[u64; 10]; 257],
+) -> Reached
+    requires { ⌜ Limits (columns (now release) (now length) (now due)) ⌝ }
+    requires { ⌜ Tables n (columns (now release) (now length) (now due)) (at (now by)) ⌝ }
+    requires { ⌜ (free ≤ 10000000) × (lib.ListN.length (now order) ≡ 256) × (lib.ListN.length (now trail) ≡ 257) ⌝ }
+    ensures { λ r. ⌜ (lib.ListN.length (now (order .exit)) ≡ 256) × (lib.ListN.length (now (trail .exit)) ≡ 257) × Found n (columns (now (release .entry)) (now (length .entry)) (now (due .entry))) (at (now (by .entry))) free bound (now (trail .exit)) r ⌝ }
+{
+    let begin = picks::start(release, by, n, free);
+    let first = run_on(release, length, due, by, n, begin, bound, order);
+    onward(release, length, due, by, n, first, 0, bound, order, trail)
+}
+
 // The blocks before the last one that was begun within the bound, and that one: how many they are.
 fn back_to(trail: &[[u64; 10]; 257], depth: usize, bound: u32) -> usize
     requires { ⌜ depth ≤ 256 ⌝ }
@@ -411,7 +438,7 @@ fn back_to(trail: &[[u64; 10]; 257], depth: usize, bound: u32) -> usize
 {
     let mut k = depth;
     while k > 0 {
-        if trail[k - 1][1] <= (bound as u64) {
+        if trail[k - 1][WORST] <= (bound as u64) {
             return k;
         }
         k -= 1;
@@ -443,7 +470,7 @@ fn resume(
         return reached;
     }
     let w = trail[k - 1];
-    if w[4] != 0 {
+    if w[SECOND] != 0 {
         return reached;
     }
     let s = desk_of(w);
@@ -482,16 +509,13 @@ fn list_ranked(
     let mut lates: [u32; 256] = [0; 256];
     let mut count: usize = 0;
     let mut bound: u32 = LARGEST_BOUND;
-    let begin = picks::start(release, by, n, free);
-    let first = run_on(release, length, due, by, n, begin, bound, &mut order);
-    let mut reached = onward(
+    let mut reached = set_out(
         release,
         length,
         due,
         by,
         n,
-        first,
-        0,
+        free,
         bound,
         &mut order,
         &mut trail,

@@ -13,7 +13,7 @@ use Rattle.core.specs.Trails.{Found}
 use Rattle.core.proofs.list_ranked.Statement.{statement}
 use Rattle.core.proofs.list_ranked.Tie as tie
 use Rattle.core.proofs.Lists.{Listing, listing-first, listing-last, listing-room, listing-next}
-use Rattle.core.proofs.Searches.{came-first, answers}
+use Rattle.core.proofs.Searches.{answers}
 use Rattle.core.proofs.Resumed.{lowers}
 
 abbrev Inv-loop : tie.InvT-loop
@@ -23,31 +23,16 @@ Inv-loop release length due by n free order₀ trail₀ ends₀ lates₀ count�
 abbrev μ-loop : tie.MeasureT-loop
 μ-loop release length due by n free order₀ trail₀ ends₀ lates₀ count₀ bound₀ reached₀ order trail ends lates count bound reached = bound
 
-start-requires : tie.Need-start-requires Inv-loop μ-loop
-start-requires c κs = ((c .args .length .now, c .args .due .now, c .pre .1 .0), c .pre .1 .1 .1)
-
-run-on-requires : tie.Need-run-on-requires Inv-loop μ-loop
-run-on-requires c κs =
-    let a = c .before .before .args in
+set-out-requires : tie.Need-set-out-requires Inv-loop μ-loop
+set-out-requires c κs =
     let p = c .before .before .pre in
-    (p .0, (p .1 .0, ((_, c .before .start .ensures .0 (a .length .now) (a .due .now) (p .1 .0)), length-replicate {A = ℕ} 256 0)))
-
-onward-requires : tie.Need-onward-requires Inv-loop μ-loop
-onward-requires c κs =
-    let a = c .before .before .before .before .before .args in
-    let p = c .before .before .before .before .before .pre in
-    let s = c .before .before .before .before .start .ensures in
-    let r = c .before .before .run-on .ensures _ (s .0 (a .length .now) (a .due .now) (p .1 .0)) in
-    (p .0, (p .1 .0, (r .places, search needs, (a .free, came-first _ _ _ (p .0) _ _ _ _ _ _ _ (s .1) (s .2) r))))
+    (p .0, (p .1 .0, (p .1 .1 .1, search needs, search needs)))
 
 loop-holds : tie.Need-loop-holds Inv-loop μ-loop
 loop-holds c =
-    let a = c .before .before .before .before .before .before .args in
-    let p = c .before .before .before .before .before .before .pre in
-    let s = c .before .before .before .before .before .start .ensures in
-    let r = c .before .before .before .run-on .ensures _ (s .0 (a .length .now) (a .due .now) (p .1 .0)) in
+    let a = c .before .before .before .args in
     let job = columns (a .release .now) (a .length .now) (a .due .now) in
-    (c .onward .ensures .0, c .onward .ensures .1, c .onward .ensures .2 (a .free) (came-first _ _ _ (p .0) _ _ _ _ _ _ _ (s .1) (s .2) r), listing-first job (a .n) (a .free) _ refl (length-replicate {A = ℕ} 256 0) (length-replicate {A = ℕ} 256 0))
+    (c .set-out .ensures .0, c .set-out .ensures .1, c .set-out .ensures .2, listing-first job (a .n) (a .free) _ refl (length-replicate {A = ℕ} 256 0) (length-replicate {A = ℕ} 256 0))
 
 answer-requires : tie.Need-answer-requires Inv-loop μ-loop
 answer-requires c κs = search needs
@@ -60,8 +45,8 @@ enum-told c = search needs
 
 returns : tie.Need-returns Inv-loop μ-loop
 returns c =
-    let a = c .before .before .before .before .before .before .before .before .before .before .args in
-    let p = c .before .before .before .before .before .before .before .before .before .before .pre in
+    let a = c .before .before .before .before .before .before .before .args in
+    let p = c .before .before .before .before .before .before .before .pre in
     let l = c .before .before .before .loop in
     let job = columns (a .release .now) (a .length .now) (a .due .now) in
     let says = sym (c .before .before .answer .ensures) ∙ c .enum-told .given .1 in
@@ -69,8 +54,8 @@ returns c =
 
 put-pair-requires : tie.Need-put-pair-requires Inv-loop μ-loop
 put-pair-requires c κs =
-    let a = c .before .before .before .before .before .before .before .before .before .before .before .before .before .args in
-    let p = c .before .before .before .before .before .before .before .before .before .before .before .before .before .pre in
+    let a = c .before .before .before .before .before .before .before .before .before .before .args in
+    let p = c .before .before .before .before .before .before .before .before .before .before .pre in
     let l = c .before .before .before .before .before .before .loop in
     let job = columns (a .release .now) (a .length .now) (a .due .now) in
     let e = c .before .before .before .end .given in
@@ -80,8 +65,8 @@ put-pair-requires c κs =
 
 sub-bound : tie.Need-sub-bound Inv-loop μ-loop
 sub-bound c =
-    let a = c .before .before .before .before .before .before .before .before .before .before .before .before .before .before .args in
-    let p = c .before .before .before .before .before .before .before .before .before .before .before .before .before .before .pre in
+    let a = c .before .before .before .before .before .before .before .before .before .before .before .args in
+    let p = c .before .before .before .before .before .before .before .before .before .before .before .pre in
     let l = c .before .before .before .before .before .before .before .loop in
     let job = columns (a .release .now) (a .length .now) (a .due .now) in
     let e = c .before .before .before .before .end .given in
@@ -91,8 +76,8 @@ sub-bound c =
 
 resume-requires : tie.Need-resume-requires Inv-loop μ-loop
 resume-requires c κs =
-    let a = c .before .before .before .before .before .before .before .before .before .before .before .before .before .before .before .before .args in
-    let p = c .before .before .before .before .before .before .before .before .before .before .before .before .before .before .before .before .pre in
+    let a = c .before .before .before .before .before .before .before .before .before .before .before .before .before .args in
+    let p = c .before .before .before .before .before .before .before .before .before .before .before .before .before .pre in
     let l = c .before .before .before .before .before .before .before .before .before .loop in
     let job = columns (a .release .now) (a .length .now) (a .due .now) in
     let e = c .before .before .before .before .before .before .end .given in
@@ -102,8 +87,8 @@ resume-requires c κs =
 
 loop-less : tie.Need-loop-less Inv-loop μ-loop
 loop-less c =
-    let a = c .before .before .before .before .before .before .before .before .before .before .before .before .before .before .before .before .before .args in
-    let p = c .before .before .before .before .before .before .before .before .before .before .before .before .before .before .before .before .before .pre in
+    let a = c .before .before .before .before .before .before .before .before .before .before .before .before .before .before .args in
+    let p = c .before .before .before .before .before .before .before .before .before .before .before .before .before .before .pre in
     let l = c .before .before .before .before .before .before .before .before .before .before .loop in
     let job = columns (a .release .now) (a .length .now) (a .due .now) in
     let e = c .before .before .before .before .before .before .before .end .given in
@@ -113,8 +98,8 @@ loop-less c =
 
 loop-again : tie.Need-loop-again Inv-loop μ-loop
 loop-again c =
-    let a = c .before .before .before .before .before .before .before .before .before .before .before .before .before .before .before .before .before .args in
-    let p = c .before .before .before .before .before .before .before .before .before .before .before .before .before .before .before .before .before .pre in
+    let a = c .before .before .before .before .before .before .before .before .before .before .before .before .before .before .args in
+    let p = c .before .before .before .before .before .before .before .before .before .before .before .before .before .before .pre in
     let l = c .before .before .before .before .before .before .before .before .before .before .loop in
     let job = columns (a .release .now) (a .length .now) (a .due .now) in
     let e = c .before .before .before .before .before .before .before .end .given in
@@ -132,9 +117,7 @@ list-ranked-spec =
     (tie.spec
     Inv-loop
     μ-loop
-    start-requires
-    run-on-requires
-    onward-requires
+    set-out-requires
     loop-holds
     answer-requires
     enum-known-end
