@@ -6,7 +6,7 @@ use native.Mathlib.Decide.{decLt}
 use native.Mathlib.Omega.{arith}
 use mathlib.Core.Path.{_≡_, refl, ap}
 use Rattle.book.specs.Rows.{lengthOf}
-use Rattle.book.specs.NearestMinute.{apart, NearestMinute}
+use Rattle.book.specs.NearestMinute.{apart, Nearest, NearestMinute}
 
 -- What is known of a quotient.
 module _ {x k : ℕ} (q : ℕ) (e : q ≡ x / k) (p : 0 < k) where

@@ -13,7 +13,7 @@ use Rattle.schedule.specs.declared.Row.{Row}
 use Rattle.schedule.specs.Rows.{noRow}
 use Rattle.book.specs.declared.Tested.{Tested}
 use Rattle.book.specs.declared.Tested.the-variants.{Passed, Refused}
-use Rattle.book.specs.Refusals.{byDisorder, refuseIf}
+use Rattle.book.specs.Refusals.{byDisorder, refuseIf, _then_}
 use Rattle.book.specs.Rows.{any, stands}
 use Rattle.book.specs.Order.{disagree, disorderFrom}
 
