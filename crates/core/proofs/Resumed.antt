@@ -41,8 +41,8 @@ module _ (n : ℕ) (job : ℕ → Job) (by : ℕ → ℕ) (limits : Limits job) 
       go true x y = record { found = f; kept = leb-true (r .at .desk .worst) bound x; less = omega (arith, ap late-in y) }
       go false x y = let z : ⊥ = omega (arith, ap late-in y) in absurd z
 
-  pub lowered-room : (before bound : ℕ) (trail : List (List ℕ)) (last : Reached) → Lowered n job by free before bound trail last → n ≤ 256 → last .depth ≤ 256
-  lowered-room before bound trail last g few = let h = g .found .came .kept (g .kept) in omega (arith, h .place, h .way .sits .count)
+  pub lowered-room : (before bound : ℕ) (trail : List (List ℕ)) (last : Reached) → Lowered n job by free before bound trail last → last .depth ≤ n
+  lowered-room before bound trail last g = let h = g .found .came .kept (g .kept) in omega (arith, h .place, h .way .sits .count)
 
   -- The search is taken up again with the bound one below the worst lateness.
   module _ (before bound : ℕ) (trail : List (List ℕ)) (last : Reached) (g : Lowered n job by free before bound trail last) (k : ℕ) (back : Back trail bound (last .depth) k) where

@@ -159,8 +159,8 @@ module _ (n : ℕ) (job : ℕ → Job) (by : ℕ → ℕ) (limits : Limits job) 
     pub here-torn : (s .count ≡ n → ⊥) → decided job (s .desk .minute) (h .rest) ≡ false
     here-torn z = stuck-torn n job by (h .rest) s (h .way .sits) (h .stuck) z
 
-    pub here-room : n ≤ 256 → (s .count ≡ n → ⊥) → k < 256
-    here-room few z = omega (arith, h .place, h .way .sits .count)
+    pub here-room : (s .count ≡ n → ⊥) → k < n
+    here-room z = omega (arith, h .place, h .way .sits .count)
 
   -- The search is at its end.
   module _ (bound : ℕ) (trail : List (List ℕ)) (k : ℕ) (s : Standing) (g : Came n job by free bound trail k s) where

@@ -38,6 +38,9 @@ const WORST: usize = 1;
 
 const SECOND: usize = 4;
 
+// The rows up to which a day is small.
+const SMALL_DAY: usize = 32;
+
 // The block that is taken next: whether it is block two, and the desk after it; the bound is kept exactly if the desk's worst lateness is within it.
 struct Block {
     second: bool,
@@ -385,12 +388,12 @@ fn onward(
     from: usize,
     bound: u32,
     order: &mut [u32; 256],
-    trail: &mut [[u64; 10]; 257],
+    trail: &mut [[u64; 10]],
 ) -> Reached
     requires { ⌜ Limits (columns (now release) (now length) (now due)) ⌝ }
     requires { ⌜ Tables n (columns (now release) (now length) (now due)) (at (now by)) ⌝ }
-    requires { ⌜ (lib.ListN.length (now order) ≡ 256) × (lib.ListN.length (now trail) ≡ 257) × ((free : ℕ) × Came n (columns (now release) (now length) (now due)) (at (now by)) free bound (now trail) from first) ⌝ }
-    ensures { λ r. ⌜ (lib.ListN.length (now (order .exit)) ≡ 256) × (lib.ListN.length (now (trail .exit)) ≡ 257) ×
+    requires { ⌜ (lib.ListN.length (now order) ≡ 256) × (n ≤ lib.ListN.length (now trail)) × ((free : ℕ) × Came n (columns (now release) (now length) (now due)) (at (now by)) free bound (now trail) from first) ⌝ }
+    ensures { λ r. ⌜ (lib.ListN.length (now (order .exit)) ≡ 256) × (n ≤ lib.ListN.length (now (trail .exit))) ×
         ((free : ℕ) → Came n (columns (now (release .entry)) (now (length .entry)) (now (due .entry))) (at (now (by .entry))) free bound (now (trail .entry)) from first → Found n (columns (now (release .entry)) (now (length .entry)) (now (due .entry))) (at (now (by .entry))) free bound (now (trail .exit)) r) ⌝ }
 {
     let mut s = first;
@@ -419,12 +422,12 @@ fn set_out(
     free: u32,
     bound: u32,
     order: &mut [u32; 256],
-    trail: &mut [[u64; 10]; 257],
+    trail: &mut [[u64; 10]],
 ) -> Reached
     requires { ⌜ Limits (columns (now release) (now length) (now due)) ⌝ }
     requires { ⌜ Tables n (columns (now release) (now length) (now due)) (at (now by)) ⌝ }
-    requires { ⌜ (free ≤ 10000000) × (lib.ListN.length (now order) ≡ 256) × (lib.ListN.length (now trail) ≡ 257) ⌝ }
-    ensures { λ r. ⌜ (lib.ListN.length (now (order .exit)) ≡ 256) × (lib.ListN.length (now (trail .exit)) ≡ 257) × Found n (columns (now (release .entry)) (now (length .entry)) (now (due .entry))) (at (now (by .entry))) free bound (now (trail .exit)) r ⌝ }
+    requires { ⌜ (free ≤ 10000000) × (lib.ListN.length (now order) ≡ 256) × (n ≤ lib.ListN.length (now trail)) ⌝ }
+    ensures { λ r. ⌜ (lib.ListN.length (now (order .exit)) ≡ 256) × (n ≤ lib.ListN.length (now (trail .exit))) × Found n (columns (now (release .entry)) (now (length .entry)) (now (due .entry))) (at (now (by .entry))) free bound (now (trail .exit)) r ⌝ }
 {
     let begin = picks::start(release, by, n, free);
     let first = run_on(release, length, due, by, n, begin, bound, order);
@@ -432,8 +435,8 @@ fn set_out(
 }
 
 // The blocks before the last one that was begun within the bound, and that one: how many they are.
-fn back_to(trail: &[[u64; 10]; 257], depth: usize, bound: u32) -> usize
-    requires { ⌜ depth ≤ 256 ⌝ }
+fn back_to(trail: &[[u64; 10]], depth: usize, bound: u32) -> usize
+    requires { ⌜ depth ≤ lib.ListN.length (now trail) ⌝ }
     ensures { λ r. ⌜ Back (now (trail .entry)) bound depth r ⌝ }
 {
     let mut k = depth;
@@ -457,12 +460,12 @@ fn resume(
     reached: Reached,
     bound: u32,
     order: &mut [u32; 256],
-    trail: &mut [[u64; 10]; 257],
+    trail: &mut [[u64; 10]],
 ) -> Reached
     requires { ⌜ Limits (columns (now release) (now length) (now due)) ⌝ }
     requires { ⌜ Tables n (columns (now release) (now length) (now due)) (at (now by)) ⌝ }
-    requires { ⌜ (lib.ListN.length (now order) ≡ 256) × (lib.ListN.length (now trail) ≡ 257) × ((free : ℕ) × (before : ℕ) × Lowered n (columns (now release) (now length) (now due)) (at (now by)) free before bound (now trail) reached) ⌝ }
-    ensures { λ r. ⌜ (lib.ListN.length (now (order .exit)) ≡ 256) × (lib.ListN.length (now (trail .exit)) ≡ 257) ×
+    requires { ⌜ (lib.ListN.length (now order) ≡ 256) × (n ≤ lib.ListN.length (now trail)) × ((free : ℕ) × (before : ℕ) × Lowered n (columns (now release) (now length) (now due)) (at (now by)) free before bound (now trail) reached) ⌝ }
+    ensures { λ r. ⌜ (lib.ListN.length (now (order .exit)) ≡ 256) × (n ≤ lib.ListN.length (now (trail .exit))) ×
         ((free before : ℕ) → Lowered n (columns (now (release .entry)) (now (length .entry)) (now (due .entry))) (at (now (by .entry))) free before bound (now (trail .entry)) reached → Found n (columns (now (release .entry)) (now (length .entry)) (now (due .entry))) (at (now (by .entry))) free bound (now (trail .exit)) r) ⌝ }
 {
     let k = back_to(trail, reached.depth, bound);
@@ -489,37 +492,27 @@ fn answer(desk: schedule::Desk, bound: u32) -> Planned
     Planned::Unkept
 }
 
-// The list of rows that stand by rank.
-fn list_ranked(
+// The list of rows that stand by rank, with a trail of as many places as rows at least.
+fn list_along(
     release: &[u32; 257],
     length: &[u32; 257],
     due: &[u32; 257],
     by: &[u32; 256],
     n: usize,
     free: u32,
+    trail: &mut [[u64; 10]],
 ) -> Front
     requires { ⌜ Limits (columns (now release) (now length) (now due)) ⌝ }
     requires { ⌜ Tables n (columns (now release) (now length) (now due)) (at (now by)) ⌝ }
-    requires { ⌜ (1 ≤ n) × (free ≤ 10000000) × Agreeing (columns (now release) (now length) (now due)) (countFrom 1 n) ⌝ }
+    requires { ⌜ (1 ≤ n) × (free ≤ 10000000) × (n ≤ lib.ListN.length (now trail)) × Agreeing (columns (now release) (now length) (now due)) (countFrom 1 n) ⌝ }
     ensures { λ r. ⌜ Listed (columns (now (release .entry)) (now (length .entry)) (now (due .entry))) n free r ⌝ }
 {
     let mut order: [u32; 256] = [0; 256];
-    let mut trail: [[u64; 10]; 257] = [[0; 10]; 257];
     let mut ends: [u32; 256] = [0; 256];
     let mut lates: [u32; 256] = [0; 256];
     let mut count: usize = 0;
     let mut bound: u32 = LARGEST_BOUND;
-    let mut reached = set_out(
-        release,
-        length,
-        due,
-        by,
-        n,
-        free,
-        bound,
-        &mut order,
-        &mut trail,
-    );
+    let mut reached = set_out(release, length, due, by, n, free, bound, &mut order, trail);
     loop {
         let Planned::Kept(end, late) = answer(reached.at.desk, bound) else {
             return Front {
@@ -539,9 +532,31 @@ fn list_ranked(
             reached,
             bound,
             &mut order,
-            &mut trail,
+            trail,
         );
     }
+}
+
+// The list of rows that stand by rank. A small day gets a small trail, which is sooner laid out.
+fn list_ranked(
+    release: &[u32; 257],
+    length: &[u32; 257],
+    due: &[u32; 257],
+    by: &[u32; 256],
+    n: usize,
+    free: u32,
+) -> Front
+    requires { ⌜ Limits (columns (now release) (now length) (now due)) ⌝ }
+    requires { ⌜ Tables n (columns (now release) (now length) (now due)) (at (now by)) ⌝ }
+    requires { ⌜ (1 ≤ n) × (free ≤ 10000000) × Agreeing (columns (now release) (now length) (now due)) (countFrom 1 n) ⌝ }
+    ensures { λ r. ⌜ Listed (columns (now (release .entry)) (now (length .entry)) (now (due .entry))) n free r ⌝ }
+{
+    if n <= SMALL_DAY {
+        let mut trail: [[u64; 10]; SMALL_DAY] = [[0; 10]; SMALL_DAY];
+        return list_along(release, length, due, by, n, free, &mut trail);
+    }
+    let mut trail: [[u64; 10]; 256] = [[0; 10]; 256];
+    list_along(release, length, due, by, n, free, &mut trail)
 }
 
 // The list: the pairs of the orders for ever smaller bounds, until no order keeps the bound.

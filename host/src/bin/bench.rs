@@ -115,7 +115,7 @@ fn main() {
             let times = measure(&book, &day);
             for (call, (archive, model)) in CALLS.iter().zip(times) {
                 println!(
-                    "| {name} | {rows} | {plans} | {call} | {archive:.2} | {model:.2} | {:.2} |",
+                    "| {name} | {rows} | {plans} | {call} | {archive:.2} | {model:.2} | {:.3} |",
                     archive / model
                 );
             }

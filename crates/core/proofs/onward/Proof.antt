@@ -3,7 +3,7 @@
 use borrow.Author.Needs.{needs}
 use Prim.Native.Nat.{ℕ, _-_, _+_}
 use mathlib.Core.List.{List}
-use mathlib.Core.Path.{_≡_, sym, subst}
+use mathlib.Core.Path.{_≡_, refl, sym, subst}
 use native.Mathlib.Omega.{arith}
 use lib.ListN.{set, length-set}
 use lib.ListN as L
@@ -14,23 +14,29 @@ use Rattle.core.proofs.onward.Tie as tie
 use Rattle.core.proofs.Searches.{here-torn, here-room, came-next, found-over, found-all}
 
 abbrev Inv-loop : tie.InvT-loop
-Inv-loop release length due by n from bound order₀ trail₀ s₀ d₀ order trail s d = (L.length order ≡ 256) × (L.length trail ≡ 257) × ((free : ℕ) → Came n (columns release length due) (at by) free bound trail₀ from s₀ → Came n (columns release length due) (at by) free bound trail d s)
+Inv-loop release length due by n from bound order₀ trail₀ s₀ d₀ order trail s d = (L.length order ≡ 256) × (L.length trail ≡ L.length trail₀) × ((free : ℕ) → Came n (columns release length due) (at by) free bound trail₀ from s₀ → Came n (columns release length due) (at by) free bound trail d s)
 
 abbrev μ-loop : tie.MeasureT-loop
 μ-loop release length due by n from bound order₀ trail₀ s₀ d₀ order trail s d = n - s .count
 
 loop-holds : tie.Need-loop-holds Inv-loop μ-loop
-loop-holds c = (c .pre .1 .1 .0, c .pre .1 .1 .1, λ free g. g)
+loop-holds c = (c .pre .1 .1 .0, refl, λ free g. g)
+
+same-length : tie.Need-same-length Inv-loop μ-loop
+same-length c = search needs
 
 returns : tie.Need-returns Inv-loop μ-loop
 returns c =
     let l = c .before .before .loop in
-    (l .inv .0, l .inv .1, λ free g. found-over _ _ _ (c .before .before .before .pre .0) free _ _ _ _ (l .inv .2 free g) (c .if1 .taken))
+    (l .inv .0, omega (arith, l .inv .1, c .before .before .before .pre .1 .1 .1), λ free g. found-over _ _ _ (c .before .before .before .pre .0) free _ _ _ _ (l .inv .2 free g) (c .if1 .taken))
+
+same-length-2 : tie.Need-same-length-2 Inv-loop μ-loop
+same-length-2 c = search needs
 
 returns-2 : tie.Need-returns-2 Inv-loop μ-loop
 returns-2 c =
     let l = c .before .before .before .before .loop in
-    (l .inv .0, l .inv .1, λ free g. found-all _ _ _ (c .before .before .before .before .before .pre .0) free _ _ _ _ (l .inv .2 free g) (c .if2 .taken))
+    (l .inv .0, omega (arith, l .inv .1, c .before .before .before .before .before .pre .1 .1 .1), λ free g. found-all _ _ _ (c .before .before .before .before .before .pre .0) free _ _ _ _ (l .inv .2 free g) (c .if2 .taken))
 
 next-block-requires : tie.Need-next-block-requires Inv-loop μ-loop
 next-block-requires c κs =
@@ -46,19 +52,20 @@ mul-t17 : tie.Need-mul-t17 Inv-loop μ-loop
 mul-t17 c =
     let p = c .before .before .before .before .before .before .before .before .pre in
     let h = c .before .before .before .before .before .before .before .loop .inv .2 (p .1 .1 .2 .0) (p .1 .1 .2 .1) .kept (c .before .before .before .before .before .if1 .left) in
-    record { fits = omega (arith, here-room _ _ _ (p .0) _ _ _ _ _ h (p .1 .0 .few) (c .before .before .before .if2 .left)) }
+    record { fits = omega (arith, here-room _ _ _ (p .0) _ _ _ _ _ h (c .before .before .before .if2 .left), p .1 .0 .few) }
 
-element-set-from-trail : tie.Need-element-set-from-trail Inv-loop μ-loop
-element-set-from-trail c =
+slice-set-from-trail : tie.Need-slice-set-from-trail Inv-loop μ-loop
+slice-set-from-trail c =
     let p = c .before .before .before .before .before .before .before .before .pre in
-    let h = c .before .before .before .before .before .before .before .loop .inv .2 (p .1 .1 .2 .0) (p .1 .1 .2 .1) .kept (c .before .before .before .before .before .if1 .left) in
-    omega (arith, here-room _ _ _ (p .0) _ _ _ _ _ h (p .1 .0 .few) (c .before .before .before .if2 .left))
+    let l = c .before .before .before .before .before .before .before .loop in
+    let h = l .inv .2 (p .1 .1 .2 .0) (p .1 .1 .2 .1) .kept (c .before .before .before .before .before .if1 .left) in
+    omega (arith, here-room _ _ _ (p .0) _ _ _ _ _ h (c .before .before .before .if2 .left), l .inv .1, p .1 .1 .1)
 
 add-d : tie.Need-add-d Inv-loop μ-loop
 add-d c =
     let p = c .before .before .before .before .before .before .before .before .before .pre in
     let h = c .before .before .before .before .before .before .before .before .loop .inv .2 (p .1 .1 .2 .0) (p .1 .1 .2 .1) .kept (c .before .before .before .before .before .before .if1 .left) in
-    record { fits = omega (arith, here-room _ _ _ (p .0) _ _ _ _ _ h (p .1 .0 .few) (c .before .before .before .before .if2 .left)) }
+    record { fits = omega (arith, here-room _ _ _ (p .0) _ _ _ _ _ h (c .before .before .before .before .if2 .left), p .1 .0 .few) }
 
 loop-less : tie.Need-loop-less Inv-loop μ-loop
 loop-less c =
@@ -82,7 +89,7 @@ loop-again c =
           let h = l .inv .2 free g .kept low in
           let torn = here-torn _ _ _ (p .0) free _ _ _ _ h more in
           subst (λ (w : List ℕ). Came (a .n) job (at (a .by .now)) free (a .bound) (set (l .trail) (l .d) w) (l .d + 1) (b .after)) (sym (c .before .words-of .ensures (h .way .sits .stands .words .size)))
-          (came-next _ _ _ (p .0) free _ _ _ _ (h .done) (h .rest) (h .way) torn low (h .place) (omega (arith, l .inv .1, here-room _ _ _ (p .0) _ _ _ _ _ h (p .1 .0 .few) more)) (h .held) _ b _ (c .before .before .next-block .ensures _ (h .way .sits) torn)),
+          (came-next _ _ _ (p .0) free _ _ _ _ (h .done) (h .rest) (h .way) torn low (h .place) (omega (arith, l .inv .1, p .1 .1 .1, here-room _ _ _ (p .0) _ _ _ _ _ h more)) (h .held) _ b _ (c .before .before .next-block .ensures _ (h .way .sits) torn)),
     )
 
 pub onward-spec : {M : Type 1} → statement M
@@ -92,12 +99,14 @@ onward-spec =
     Inv-loop
     μ-loop
     loop-holds
+    same-length
     returns
+    same-length-2
     returns-2
     next-block-requires
     words-of-requires
     mul-t17
-    element-set-from-trail
+    slice-set-from-trail
     add-d
     loop-less
     loop-again)

@@ -1,5 +1,6 @@
 -- `set_out` meets its contract: past the opening run the search goes on with blocks.
 -- Assumes nothing.
+use borrow.Author.Needs.{needs}
 use Rattle.core.proofs.set_out.Statement.{statement}
 use Rattle.core.proofs.set_out.Tie as tie
 use Rattle.core.proofs.Searches.{came-first}
@@ -21,13 +22,18 @@ onward-requires c κs =
     let r = c .before .before .run-on .ensures _ (s .0 (a .length .now) (a .due .now) (p .1 .0)) in
     (p .0, (p .1 .0, (r .places, p .1 .1 .2, (a .free, came-first _ _ _ (p .0) _ _ _ _ _ _ _ (s .1) (s .2) r))))
 
+same-length : tie.Need-same-length
+same-length c = search needs
+
 returns : tie.Need-returns
 returns c =
-    let a = c .before .before .before .before .before .before .args in
-    let p = c .before .before .before .before .before .before .pre in
-    let s = c .before .before .before .before .before .start .ensures in
-    let r = c .before .before .before .run-on .ensures _ (s .0 (a .length .now) (a .due .now) (p .1 .0)) in
-    (c .onward .ensures .0, c .onward .ensures .1, c .onward .ensures .2 (a .free) (came-first _ _ _ (p .0) _ _ _ _ _ _ _ (s .1) (s .2) r))
+    let a = c .before .before .before .before .before .before .before .args in
+    let p = c .before .before .before .before .before .before .before .pre in
+    let s = c .before .before .before .before .before .before .start .ensures in
+    let r = c .before .before .before .before .run-on .ensures _ (s .0 (a .length .now) (a .due .now) (p .1 .0)) in
+    let o = c .before .onward .ensures in
+    (o .0, o .1, o .2 (a .free) (came-first _ _ _ (p .0) _ _ _ _ _ _ _ (s .1) (s .2) r))
 
 pub set-out-spec : {M : Type 1} → statement M
-set-out-spec = tie.close (tie.spec start-requires run-on-requires onward-requires returns)
+set-out-spec =
+    tie.close (tie.spec start-requires run-on-requires onward-requires same-length returns)
