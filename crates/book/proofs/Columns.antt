@@ -14,26 +14,26 @@ use Rattle.schedule.specs.declared.Row.{Row}
 use Rattle.schedule.specs.Rows.{noRow}
 use Rattle.book.specs.Rows.{any}
 use Rattle.book.specs.Order.{tighter, disagree}
-use Rattle.book.specs.Columns.{Limited, AllLimited, raisedSpare, crosses, crossed}
+use Rattle.book.specs.Columns.{Limited, AllLimited, raisedSpare, pairDisagrees, anyDisagrees}
 use Rattle.book.proofs.Signed.{ltZ-sums, ltb-same}
 use Rattle.book.proofs.Scans.{any-on}
 
--- No place, and one place more; what is crossed below stays so.
+-- No place, and one place more; a disagreement below stays one.
 module _ (dues spares : List ℕ) (due spare : ℕ) where
-  pub crossed-none : crossed dues spares due spare 0 ≡ false
-  unfolding crossed
-  crossed-none = refl
+  pub above-none : anyDisagrees dues spares due spare 0 ≡ false
+  unfolding anyDisagrees
+  above-none = refl
 
-  pub crossed-on : (n : ℕ) → crossed dues spares due spare (n + 1) ≡ (crossed dues spares due spare n || crosses due spare (getD dues n 0) (getD spares n 0))
-  unfolding crossed
-  crossed-on n = rw add-one
+  pub above-on : (n : ℕ) → anyDisagrees dues spares due spare (n + 1) ≡ (anyDisagrees dues spares due spare n || pairDisagrees due spare (getD dues n 0) (getD spares n 0))
+  unfolding anyDisagrees
+  above-on n = rw add-one
 
-  pub crossed-below : (n m : ℕ) → crossed dues spares due spare n ≡ true → n ≤ m → crossed dues spares due spare m ≡ true
-  unfolding crossed
-  crossed-below n zero e l = let none : n ≡ 0 = omega arith in rw none at e
-  crossed-below n (suc m) e l = go (decLe n m) (crossed-below n m e)
+  pub above-below : (n m : ℕ) → anyDisagrees dues spares due spare n ≡ true → n ≤ m → anyDisagrees dues spares due spare m ≡ true
+  unfolding anyDisagrees
+  above-below n zero e l = let none : n ≡ 0 = omega arith in rw none at e
+  above-below n (suc m) e l = go (decLe n m) (above-below n m e)
     where
-      go : Dec (n ≤ m) → (n ≤ m → crossed dues spares due spare m ≡ true) → crossed dues spares due spare (suc m) ≡ true
+      go : Dec (n ≤ m) → (n ≤ m → anyDisagrees dues spares due spare m ≡ true) → anyDisagrees dues spares due spare (suc m) ≡ true
       go (yes g) later = rw (later g)
       go (no g) later = let all : n ≡ suc m = omega arith in rw all at e
 
@@ -45,9 +45,9 @@ raised-tighter r s h k =
     (ap (λ (b : Bool). ltb (r .due) (s .due) && b)
     (ltb-same (r .due + (s .release + s .length)) (s .due + (r .release + r .length)) (raisedSpare r) (raisedSpare s) (λ l. omega arith) (λ l. omega arith)))
 
-crosses-disagree : (r s : Row) → Limited r → Limited s → disagree r s ≡ crosses (r .due) (raisedSpare r) (s .due) (raisedSpare s)
+pair-disagree : (r s : Row) → Limited r → Limited s → disagree r s ≡ pairDisagrees (r .due) (raisedSpare r) (s .due) (raisedSpare s)
 unfolding disagree
-crosses-disagree r s h k = rw (raised-tighter r s h k, raised-tighter s r k h)
+pair-disagree r s h k = rw (raised-tighter r s h k, raised-tighter s r k h)
 
 -- The columns hold the dues and the raised spares of the first n rows.
 pub record Columned (rows : List Row) (n : ℕ) (dues spares : List ℕ) : Type 0 where
@@ -83,12 +83,12 @@ columned-on rows n dues spares room k = record {
 }
 
 -- A row against the columns is the row against the rows that they hold.
-pub crossed-any : (rows : List Row) (n : ℕ) (dues spares : List ℕ) (r : Row) → AllLimited rows → Limited r → n ≤ length rows → Columned rows n dues spares →
-    (k : ℕ) → k ≤ n → crossed dues spares (r .due) (raisedSpare r) k ≡ any (disagree r) (take k rows)
-unfolding crossed any
-crossed-any rows n dues spares r all h few c zero l = refl
-crossed-any rows n dues spares r all h few c (suc k) l =
+pub above-any : (rows : List Row) (n : ℕ) (dues spares : List ℕ) (r : Row) → AllLimited rows → Limited r → n ≤ length rows → Columned rows n dues spares →
+    (k : ℕ) → k ≤ n → anyDisagrees dues spares (r .due) (raisedSpare r) k ≡ any (disagree r) (take k rows)
+unfolding anyDisagrees any
+above-any rows n dues spares r all h few c zero l = refl
+above-any rows n dues spares r all h few c (suc k) l =
     let m : k < length rows = omega arith in
     let s = getD rows k noRow in
-    rw (← add-one k, any-on (disagree r) rows noRow k m, c .due k (omega arith), c .spare k (omega arith), crosses-disagree r s h (all k m))
-    (ap (λ (b : Bool). b || crosses (r .due) (raisedSpare r) (s .due) (raisedSpare s)) (crossed-any rows n dues spares r all h few c k (omega arith)))
+    rw (← add-one k, any-on (disagree r) rows noRow k m, c .due k (omega arith), c .spare k (omega arith), pair-disagree r s h (all k m))
+    (ap (λ (b : Bool). b || pairDisagrees (r .due) (raisedSpare r) (s .due) (raisedSpare s)) (above-any rows n dues spares r all h few c k (omega arith)))

@@ -19,11 +19,11 @@ AllLimited rows = (i : ℕ) → i < length rows → Limited (getD rows i noRow)
 abbrev pub raisedSpare : Row → ℕ
 raisedSpare r = r .due + 10030000 - (r .release + r .length)
 
--- One due is the smaller and its spare too.
-abbrev pub crosses : (due spare d s : ℕ) → Bool
-crosses due spare d s = (ltb due d && ltb spare s) || (ltb d due && ltb s spare)
+-- Two rows disagree, by their dues and raised spares: one has the smaller due and also the smaller spare.
+abbrev pub pairDisagrees : (due spare d s : ℕ) → Bool
+pairDisagrees due spare d s = (ltb due d && ltb spare s) || (ltb d due && ltb s spare)
 
--- So for one of the first n places of the columns.
-unfoldable pub crossed : (dues spares : List ℕ) (due spare : ℕ) → ℕ → Bool
-crossed dues spares due spare zero = false
-crossed dues spares due spare (suc n) = crossed dues spares due spare n || crosses due spare (getD dues n 0) (getD spares n 0)
+-- A row disagrees with one of the rows in the first n places of the columns.
+unfoldable pub anyDisagrees : (dues spares : List ℕ) (due spare : ℕ) → ℕ → Bool
+anyDisagrees dues spares due spare zero = false
+anyDisagrees dues spares due spare (suc n) = anyDisagrees dues spares due spare n || pairDisagrees due spare (getD dues n 0) (getD spares n 0)

@@ -10,7 +10,7 @@ ghost use Rattle.book.specs.Words.{kind, value, word, outside, kindTests
 ghost use Rattle.book.specs.Due.{margin, classOf, dueTests, Margined, dueBy};
 ghost use Rattle.book.specs.Rows.{stands, numberTests, rowTests, lengthOf, rowOf, rowReadOf, endStands, endTests, readRows};
 ghost use Rattle.book.specs.Order.{orderTests};
-ghost use Rattle.book.specs.Columns.{Limited, AllLimited, raisedSpare, crosses, crossed};
+ghost use Rattle.book.specs.Columns.{Limited, AllLimited, raisedSpare, pairDisagrees, anyDisagrees};
 ghost use Rattle.book.specs.Book.{headTests, readBook, tableOf, tableRows, readingOf, settledOf, rowPlace, rowWords};
 use schedule::Class;
 use schedule::Desk;
@@ -404,16 +404,16 @@ fn spare_of(r: Row) -> u32
     r.due + 10_030_000 - (r.release + r.length)
 }
 
-// One due is the smaller and its spare too. Here and below every side is worked out: a branch that goes either way from pair to pair costs more.
-fn is_crossed(due: u32, spare: u32, d: u32, s: u32) -> bool
-    ensures { λ r. ⌜ r ≡ crosses due spare d s ⌝ }
+// Two rows disagree: one has the smaller due and also the smaller spare. Here and below every side is worked out: a branch that goes either way from pair to pair costs more.
+fn pair_disagrees(due: u32, spare: u32, d: u32, s: u32) -> bool
+    ensures { λ r. ⌜ r ≡ pairDisagrees due spare d s ⌝ }
 {
     (due < d) & (spare < s) | (d < due) & (s < spare)
 }
 
-// A due and a spare against the columns up to `end`; those below `from` are known not to be crossed. The loop goes on where one is: so it has no branch, and
+// A due and a spare against the columns up to `end`; those below `from` are known not to disagree. The loop goes on where one does: so it has no branch, and
 // several places are compared at a time.
-fn is_crossed_by(
+fn disagrees_above(
     dues: &[u32; Desk::ROWS],
     spares: &[u32; Desk::ROWS],
     from: usize,
@@ -421,13 +421,13 @@ fn is_crossed_by(
     due: u32,
     spare: u32,
 ) -> bool
-    requires { ⌜ (from ≤ end) × (end ≤ 256) × (length (now dues) ≡ 256) × (length (now spares) ≡ 256) × (crossed (now dues) (now spares) due spare from ≡ false) ⌝ }
-    ensures { λ r. ⌜ r ≡ crossed (now (dues .entry)) (now (spares .entry)) due spare end ⌝ }
+    requires { ⌜ (from ≤ end) × (end ≤ 256) × (length (now dues) ≡ 256) × (length (now spares) ≡ 256) × (anyDisagrees (now dues) (now spares) due spare from ≡ false) ⌝ }
+    ensures { λ r. ⌜ r ≡ anyDisagrees (now (dues .entry)) (now (spares .entry)) due spare end ⌝ }
 {
     let mut found = false;
     let mut j = from;
     while j < end {
-        found = found | is_crossed(due, spare, dues[j], spares[j]);
+        found = found | pair_disagrees(due, spare, dues[j], spares[j]);
         j += 1;
     }
     found
@@ -460,7 +460,7 @@ fn order_tests(table: Table) -> Tested
         let mut j = 0;
         while j < i {
             let end = stretch_end(j, i);
-            if is_crossed_by(&dues, &spares, j, end, r.due, spare) {
+            if disagrees_above(&dues, &spares, j, end, r.due, spare) {
                 let place = 4 * i + 2;
                 break 'rows Tested::Refused(Tested::DISORDER, place);
             }

@@ -9,17 +9,17 @@ use borrow.Author.Needs.{needs}
 use Rattle.schedule.specs.Rows.{noRow}
 use Rattle.book.specs.Rows.{any}
 use Rattle.book.specs.Order.{disagree, orderTests}
-use Rattle.book.specs.Columns.{crossed}
+use Rattle.book.specs.Columns.{anyDisagrees}
 use Rattle.book.specs.Book.{tableRows}
 use Rattle.book.proofs.Scans.{disorderAt, order-here, order-on, order-end}
-use Rattle.book.proofs.Columns.{crossed-none, crossed-below, Columned, columned-none, columned-on, crossed-any}
+use Rattle.book.proofs.Columns.{above-none, above-below, Columned, columned-none, columned-on, above-any}
 use Rattle.book.proofs.Tables.{all-places, rows-length, row-at}
 use Rattle.book.proofs.order_tests.Statement.{statement}
 use Rattle.book.proofs.order_tests.Tie as tie
 
--- Row i crosses none of the columns below j.
+-- Row i disagrees with none of the columns below j.
 abbrev Inv-loop : tie.InvT-loop
-Inv-loop table count dues spares i r spare j₀ j = (j ≤ i) × (crossed dues spares (r .due) spare j ≡ false)
+Inv-loop table count dues spares i r spare j₀ j = (j ≤ i) × (anyDisagrees dues spares (r .due) spare j ≡ false)
 
 abbrev μ-loop : tie.MeasureT-loop
 μ-loop table count dues spares i r spare j₀ j = i - j
@@ -44,7 +44,7 @@ there c = rw (size (c .before .before)) (c .if1 .left)
 compared : (c : tie.After-spare-of Inv-loop μ-loop Inv-rows μ-rows) →
     let o = c .before .before .before .rows in
     let t = c .before .before .before .before .args .t1 in
-    crossed (o .dues) (o .spares) (getD (t .rows) (o .i) noRow .due) (c .spare-of .result) (o .i) ≡ any (disagree (getD (tableRows t) (o .i) noRow)) (take (o .i) (tableRows t))
+    anyDisagrees (o .dues) (o .spares) (getD (t .rows) (o .i) noRow .due) (c .spare-of .result) (o .i) ≡ any (disagree (getD (tableRows t) (o .i) noRow)) (take (o .i) (tableRows t))
 compared c =
     let e = c .before .before in
     let s = e .before .before in
@@ -52,7 +52,7 @@ compared c =
     let rows = tableRows (s .args .t1) in
     let all = s .pre .1 in
     rw (c .spare-of .ensures, ← row-at (s .args .t1) (o .i) (e .if1 .left))
-    (crossed-any rows (o .i) (o .dues) (o .spares) (getD rows (o .i) noRow) all (all (o .i) (there e)) (omega (arith, there e)) (o .inv .1) (o .i) (omega arith))
+    (above-any rows (o .i) (o .dues) (o .spares) (getD rows (o .i) noRow) all (all (o .i) (there e)) (omega (arith, there e)) (o .inv .1) (o .i) (omega arith))
 
 rows-holds : tie.Need-rows-holds Inv-loop μ-loop Inv-rows μ-rows
 rows-holds c = (search needs, columned-none (tableRows (c .args .t1)), search needs)
@@ -70,13 +70,13 @@ spare-of-requires c κs =
     rw (← row-at (s .args .t1) (o .i) (c .before .if1 .left)) (s .pre .1 (o .i) (there (c .before)))
 
 loop-holds : tie.Need-loop-holds Inv-loop μ-loop Inv-rows μ-rows
-loop-holds c = (search needs, crossed-none _ _ _ _)
+loop-holds c = (search needs, above-none _ _ _ _)
 
 stretch-end-requires : tie.Need-stretch-end-requires Inv-loop μ-loop Inv-rows μ-rows
 stretch-end-requires c κs = search needs
 
-is-crossed-by-requires : tie.Need-is-crossed-by-requires Inv-loop μ-loop Inv-rows μ-rows
-is-crossed-by-requires c κs = search needs
+disagrees-above-requires : tie.Need-disagrees-above-requires Inv-loop μ-loop Inv-rows μ-rows
+disagrees-above-requires c κs = search needs
 
 mul-place : tie.Need-mul-place Inv-loop μ-loop Inv-rows μ-rows
 mul-place c = search needs
@@ -88,7 +88,7 @@ loop-less : tie.Need-loop-less Inv-loop μ-loop Inv-rows μ-rows
 loop-less c = search needs
 
 loop-again : tie.Need-loop-again Inv-loop μ-loop Inv-rows μ-rows
-loop-again c = (search needs, sym (c .before .is-crossed-by .ensures) ∙ c .if2 .left)
+loop-again c = (search needs, sym (c .before .disagrees-above .ensures) ∙ c .if2 .left)
 
 mul-dues : tie.Need-mul-dues Inv-loop μ-loop Inv-rows μ-rows
 mul-dues c = search needs
@@ -136,7 +136,7 @@ returns-2 c =
     let o = e .before .rows in
     let t = e .before .before .args .t1 in
     let end = x .before .before .before .stretch-end in
-    let found = crossed-below (o .dues) (o .spares) (getD (t .rows) (o .i) noRow .due) (p .spare-of .result) (end .result) (o .i) (sym (x .is-crossed-by .ensures) ∙ c .if2 .taken) (end .ensures .1) in
+    let found = above-below (o .dues) (o .spares) (getD (t .rows) (o .i) noRow .due) (p .spare-of .result) (end .result) (o .i) (sym (x .disagrees-above .ensures) ∙ c .if2 .taken) (end .ensures .1) in
     sym (o .inv .2 ∙ order-here (tableRows t) (o .i) (there e) (sym (compared p) ∙ found))
 
 pub order-tests-spec : {M : Type 1} → statement M
@@ -153,7 +153,7 @@ order-tests-spec =
     spare-of-requires
     loop-holds
     stretch-end-requires
-    is-crossed-by-requires
+    disagrees-above-requires
     mul-place
     add-place
     loop-less
