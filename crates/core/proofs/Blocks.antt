@@ -7,9 +7,9 @@ use mathlib.Core.List.{List, _++_}
 use lib.ListN.{take}
 use Rattle.theory.specs.Jobs.{Job}
 use Rattle.schedule.specs.Picks.{firstPick, secondPick, block, blockOne, blockTwo}
+use Rattle.schedule.proofs.Tests.{apart}
 use Rattle.picks.specs.declared.Standing.{Standing}
 use Rattle.core.specs.Taking.{Ran, Stepped}
-use Rattle.core.proofs.Picked.{apart}
 
 module _ (n : ℕ) (job : ℕ → Job) (by : ℕ → ℕ) (bound : ℕ) (rest : List ℕ) (s : Standing) where
   abbrev now : ℕ

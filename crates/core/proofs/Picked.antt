@@ -2,7 +2,7 @@
 -- Assumes nothing.
 use Prim.Native.Nat.{ℕ, suc, _≤_, _<_}
 use native.Mathlib.Omega.{arith}
-use mathlib.Core.Bool.{Bool, true, false, cond, _||_}
+use mathlib.Core.Bool.{Bool, true, false, _||_}
 use mathlib.Core.Path.{_≡_, refl, sym, ap, _∙_, subst}
 use mathlib.Core.List.{List, [], _∷_, List·Memᴰ, List·Memᴰ·not-nil}
 use lib.Dec.{leb, eqb}
@@ -11,18 +11,11 @@ use borrow.Author.Tests.{eqb-true, eqb-false, ne-eqb, le-leb, lt-leb}
 use Rattle.theory.specs.Jobs.{Job}
 use Rattle.schedule.specs.Rows.{without}
 use Rattle.schedule.specs.Picks.{firstPick, others, secondPick, decided}
-use Rattle.schedule.proofs.Tests.{neither}
+use Rattle.schedule.proofs.Tests.{apart, neither}
 use Rattle.schedule.proofs.PickLaws.{least-mem}
 use Rattle.schedule.proofs.Orders.{length-without, mem-without}
 use Rattle.picks.specs.declared.Standing.{Standing}
 use Rattle.picks.specs.Standing.{Tables, Sits}
-
--- True is not false.
-pub apart : {A : Type 0} → _≡_ {A = Bool} false true → A
-apart e =
-    let y : _≡_ {A = ℕ} 0 1 = ap (λ (b : Bool). cond b 1 0) e in
-    let x : ⊥ = omega arith in
-    absurd x
 
 module _ (job : ℕ → Job) (t : ℕ) where
   -- The pick is one of the rows.

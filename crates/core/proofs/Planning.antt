@@ -8,7 +8,6 @@ use mathlib.Core.List.{List, _++_}
 use mathlib.Core.Option.{none, some}
 use lib.ListN.{length, take}
 use Rattle.theory.specs.Jobs.{Job}
-use Rattle.schedule.specs.declared.Desk.{Desk}
 use Rattle.schedule.specs.Rows.{countFrom, withoutAll}
 use Rattle.schedule.specs.Picks.{decided, run, blockOne, blockTwo}
 use Rattle.schedule.specs.Columns.{Limits}
@@ -18,8 +17,8 @@ use Rattle.core.specs.declared.Block.{Block}
 use Rattle.core.specs.Taking.{deskThrough, Stuck, Ran, Stepped}
 use Rattle.core.specs.Answers.{orderOf, Searched}
 use Rattle.core.specs.Trails.{Way}
-use Rattle.core.proofs.Ways.{opening-over, way-first, way-done}
-use Rattle.core.proofs.Searches.{stuck-torn, went-next}
+use Rattle.core.proofs.Ways.{way-done}
+use Rattle.core.proofs.Searches.{stuck-torn, went-first, went-next}
 
 module _ (n : ℕ) (job : ℕ → Job) (by : ℕ → ℕ) (free bound : ℕ) where
   -- The rows done stand in the order.
@@ -38,18 +37,17 @@ module _ (n : ℕ) (job : ℕ → Job) (by : ℕ → ℕ) (limits : Limits job) 
   pub planning-first : (s : Standing) (order : List ℕ) (r : Standing) (after : List ℕ) → s .desk ≡ deskAt free → s .count ≡ 0 →
       Ran n job by bound (countFrom 1 n) s (run job (s .desk .minute) (countFrom 1 n)) order r after → Planning n job by free bound after r
   planning-first s order r after e c q =
-      let t : run job (s .desk .minute) (countFrom 1 n) ≡ run job free (countFrom 1 n) = ap (λ (d : Desk). run job (d .minute) (countFrom 1 n)) e in
-      let d : deskThrough job (s .desk) (run job (s .desk .minute) (countFrom 1 n)) ≡ deskThrough job (deskAt free) (run job free (countFrom 1 n)) = λ x. deskThrough job (e x) (t x) in
+      let w = went-first n job by limits free bound s e c order r after q in
+      let rest = withoutAll (run job free (countFrom 1 n)) (countFrom 1 n) in
       record {
         kept = λ k.
-            let m = q .kept k .0 in
-            let w : take (r .count) after ≡ run job free (countFrom 1 n) = q .kept k .1 ∙ λ x. take (c x) order ++ t x in
+            let m = w .kept k in
             record {
-              rest = withoutAll (run job free (countFrom 1 n)) (countFrom 1 n);
-              way = subst (λ (done : List ℕ). Way n job by free bound done (withoutAll (run job free (countFrom 1 n)) (countFrom 1 n)) r) (sym w) (way-first job limits n by free bound s r e c m);
-              stuck = subst (λ (o : List ℕ). Stuck n job by (r .desk .minute) (withoutAll o (countFrom 1 n))) t (m .stuck);
+              rest = rest;
+              way = subst (λ (done : List ℕ). Way n job by free bound done rest r) (sym (m .2 ∙ ap (λ (j : ℕ). take j order ++ run job free (countFrom 1 n)) c)) (m .0);
+              stuck = m .1 .stuck;
             };
-        over = λ k. opening-over job limits n by free bound (omega (arith, q .over k, ap (λ (x : Desk). x .worst) d));
+        over = w .over;
         places = q .places;
       }
 

@@ -19,6 +19,7 @@ use Rattle.schedule.specs.Desk.{endOf, pairOf}
 use Rattle.schedule.specs.Picks.{decided, run, block, blockOne, blockTwo}
 use Rattle.schedule.specs.Columns.{at, Limits}
 use Rattle.schedule.specs.Offset.{deskAt, raised}
+use Rattle.schedule.proofs.Tests.{apart}
 use Rattle.picks.specs.declared.Standing.{Standing}
 use Rattle.picks.specs.Standing.{Sits}
 use Rattle.core.specs.declared.Block.{Block}
@@ -27,7 +28,6 @@ use Rattle.core.specs.declared.Planned.the-variants.{Kept, Unkept}
 use Rattle.core.specs.Taking.{deskThrough, Stuck, After, Ran, Stepped}
 use Rattle.core.specs.Answers.{answerOf, plannedOf, orderOf, Paired}
 use Rattle.core.specs.Trails.{wordsOf, wordsAt, Way, Held, Here, Came, Found}
-use Rattle.core.proofs.Picked.{apart}
 use Rattle.core.proofs.Signs.{through-late, followed-end, followed-raised}
 use Rattle.core.proofs.Ways.{opening-over, way-first, way-done, way-one, way-two, way-none}
 use Rattle.core.proofs.Trails.{held-set}
@@ -45,30 +45,42 @@ stuck-torn n job by rest s g (inl e) z = absurd (z (omega (arith, g .count, ap l
 stuck-torn n job by rest s g (inr e) z = e
 
 module _ (n : ℕ) (job : ℕ → Job) (by : ℕ → ℕ) (limits : Limits job) (free : ℕ) where
-  -- Past the opening run, with nothing on the trail.
-  pub came-first : (bound : ℕ) (trail : List (List ℕ)) (s : Standing) (order : List ℕ) (r : Standing) (after : List ℕ) → s .desk ≡ deskAt free → s .count ≡ 0 →
-      Ran n job by bound (countFrom 1 n) s (run job (s .desk .minute) (countFrom 1 n)) order r after → Came n job by free bound trail 0 r
-  came-first bound trail s order r after e c q =
-      let t : run job (s .desk .minute) (countFrom 1 n) ≡ run job free (countFrom 1 n) = ap (λ (d : Desk). run job (d .minute) (countFrom 1 n)) e in
-      let d : deskThrough job (s .desk) (run job (s .desk .minute) (countFrom 1 n)) ≡ deskThrough job (deskAt free) (run job free (countFrom 1 n)) = λ x. deskThrough job (e x) (t x) in
-      record {
-        kept = λ k.
-            let m = q .kept k .0 in
-            record {
-              done = run job free (countFrom 1 n);
-              rest = withoutAll (run job free (countFrom 1 n)) (countFrom 1 n);
-              way = way-first job limits n by free bound s r e c m;
-              stuck = subst (λ (o : List ℕ). Stuck n job by (r .desk .minute) (withoutAll o (countFrom 1 n))) t (m .stuck);
-              place = omega arith;
-              held = λ b h. opening-over job limits n by free b (omega (arith, ap (λ (x : Desk). x .worst) (m .desk), ap (λ (x : Desk). x .worst) d));
-            };
-        over = λ k. opening-over job limits n by free bound (omega (arith, q .over k, ap (λ (x : Desk). x .worst) d));
-      }
-
-  -- The block o is taken next: where the bound is kept with it, it is on the way; otherwise no order keeps the bound.
+  -- The rows o are taken next, the opening run or a block: where the bound is kept with them, they are on the way; otherwise no order keeps the bound.
   pub record Went (bound : ℕ) (done rest : List ℕ) (s : Standing) (order o : List ℕ) (r : Standing) (after : List ℕ) : Type 0 where
     pub kept : r .desk .worst ≤ bound → Way n job by free bound (done ++ o) (withoutAll o rest) r × After n job by rest s o r × (take (r .count) after ≡ take (s .count) order ++ o)
     pub over : bound < r .desk .worst → orderOf job n free bound ≡ none
+
+  -- The opening run, from a desk with nothing done yet.
+  module _ (bound : ℕ) (s : Standing) (starts : s .desk ≡ deskAt free) (none-done : s .count ≡ 0) (order : List ℕ) (r : Standing) (after : List ℕ)
+      (q : Ran n job by bound (countFrom 1 n) s (run job (s .desk .minute) (countFrom 1 n)) order r after) where
+    abbrev opening : List ℕ
+    opening = run job free (countFrom 1 n)
+
+    worst-after : deskThrough job (s .desk) opening .worst ≡ deskThrough job (deskAt free) opening .worst
+    worst-after = ap (λ (d : Desk). deskThrough job d opening .worst) starts
+
+    pub went-first : Went bound [] (countFrom 1 n) s order opening r after
+    went-first =
+        let p = subst (λ (o : List ℕ). Ran n job by bound (countFrom 1 n) s o order r after) (ap (λ (d : Desk). run job (d .minute) (countFrom 1 n)) starts) q in
+        record {
+          kept = λ k. (way-first job limits n by free bound s r starts none-done (p .kept k .0), p .kept k .0, p .kept k .1);
+          over = λ k. opening-over job limits n by free bound (omega (arith, p .over k, worst-after));
+        }
+
+    pub came-first : (trail : List (List ℕ)) → Came n job by free bound trail 0 r
+    came-first trail = record {
+      kept = λ k.
+          let m = went-first .kept k in
+          record {
+            done = opening;
+            rest = withoutAll opening (countFrom 1 n);
+            way = m .0;
+            stuck = m .1 .stuck;
+            place = omega arith;
+            held = λ b h. opening-over job limits n by free b (omega (arith, ap (λ (x : Desk). x .worst) (m .1 .desk), worst-after));
+          };
+      over = went-first .over;
+    }
 
   module _ (bound : ℕ) (done rest : List ℕ) (s : Standing) (w : Way n job by free bound done rest s) (torn : decided job (s .desk .minute) rest ≡ false) (low : s .desk .worst ≤ bound) where
     abbrev first : List ℕ

@@ -20,7 +20,6 @@ use Rattle.schedule.specs.Offset.{lowered, deskAt}
 use Rattle.schedule.proofs.Numbers.{length-count}
 use Rattle.schedule.proofs.Search.{blocks-one, blocks-two, blocks-none}
 use Rattle.picks.specs.declared.Standing.{Standing}
-use Rattle.picks.specs.Standing.{Sits}
 use Rattle.core.specs.Taking.{deskThrough, After}
 use Rattle.core.specs.Answers.{orderOf}
 use Rattle.core.specs.Trails.{Way}
@@ -77,17 +76,16 @@ module _ (job : ℕ → Job) (limits : Limits job) where
     opening-over b h = order-shut (lowered b) (breaks-it b (deskAt free) opening (omega arith) h)
 
     -- After the opening run.
-    pub way-first : (bound : ℕ) (s r : Standing) → s .desk ≡ deskAt free → s .count ≡ 0 → After n job by all s (run job (s .desk .minute) all) r → Way n job by free bound opening (withoutAll opening all) r
+    pub way-first : (bound : ℕ) (s r : Standing) → s .desk ≡ deskAt free → s .count ≡ 0 → After n job by all s opening r → Way n job by free bound opening (withoutAll opening all) r
     way-first bound s r e c m =
-        let t : run job (s .desk .minute) all ≡ opening = ap (λ (d : Desk). run job (d .minute) all) e in
-        let d : r .desk ≡ deskThrough job (deskAt free) opening = m .desk ∙ λ x. deskThrough job (e x) (t x) in
+        let d : r .desk ≡ deskThrough job (deskAt free) opening = m .desk ∙ ap (λ (x : Desk). deskThrough job x opening) e in
         let k : r .desk .minute ≡ endOf job free opening = ap (λ (x : Desk). x .minute) d ∙ through-minute job (deskAt free) opening in
         record {
           fuel = length all;
-          sits = subst (λ (o : List ℕ). Sits n job by (withoutAll o all) r) t (m .sits);
+          sits = m .sits;
           desk = d;
-          count = omega (arith, m .count, c, ap length t);
-          enough = omega (arith, m .sits .count, ap (λ (o : List ℕ). length (withoutAll o all)) t, length-count 1 n);
+          count = omega (arith, m .count, c);
+          enough = omega (arith, m .sits .count, length-count 1 n);
           leads = λ b h low.
               order-opens (lowered b) (keeps-it b (deskAt free) opening (omega arith) (omega (arith, ap (λ (x : Desk). x .worst) d))) ∙
               ap (λ (u : ℕ). joined opening (blocksFor job (length all) (lowered b) u (withoutAll opening all))) (sym k);

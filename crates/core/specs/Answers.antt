@@ -1,5 +1,5 @@
 -- What the core answers: the order for a bound with its pair, and the list of plans. Latenesses are raised by 2³¹.
--- Rests on: Columns, Taking, and the schedule's order for a bound and plans.
+-- Rests on: Taking, and the schedule's order for a bound and plans.
 use Prim.Native.Nat.{ℕ, zero, suc, _+_, _≤_, _<_}
 use mathlib.Core.Bool.{cond}
 use mathlib.Core.Path.{_≡_}

@@ -5,14 +5,10 @@ use native.Mathlib.Omega.{arith}
 use native.Mathlib.Nat.{pow-suc}
 use mathlib.Core.Bool.{Bool, true, false, cond}
 use mathlib.Core.Path.{_≡_, refl, sym, ap, _∙_, subst}
-use lib.Dec.{T, eqb}
+use lib.Dec.{eqb}
 use lib.Count.{trailingZeros, under}
 use borrow.Author.Tests.{eq-eqb, ne-eqb, eqb-true, eqb-false}
 use Rattle.picks.specs.Bits.{bit, word, mark}
-
--- False is not true.
-pub apart : {A : Type 0} → _≡_ {A = Bool} false true → A
-apart e = let z : ⊥ = subst T (sym e) tt in absurd z
 
 bit-small : (b : Bool) → bit b ≤ 1
 bit-small true = omega arith

@@ -9,20 +9,13 @@ use Rattle.theory.specs.Jobs.{Job, ready}
 use Rattle.schedule.specs.Rows.{without}
 use Rattle.schedule.specs.Picks.{ahead, outranks, before, leastOf, firstPick, others, secondPick}
 use Rattle.schedule.proofs.Tests.{is-true, Compared, compared}
-use Rattle.schedule.proofs.PickLaws.{least-mem, least-ahead, before-ahead, Ahead}
+use Rattle.schedule.proofs.PickLaws.{least-mem, least-ahead, before-ahead, Ahead, ahead-same}
 
 module _ {job : ℕ → Job} {t : ℕ} where
-  -- Two rows that are ahead of each other are one.
-  no-further : {i j : ℕ} → Ahead job t i j → Ahead job t j i → i ≤ j
-  no-further a b = a .by-row (b .by-ready) (b .by-due (a .by-ready)) (b .by-end (a .by-ready) (a .by-due (b .by-ready)))
-
   pub pick-is : (i : ℕ) (rest : List ℕ) → List·Memᴰ i rest → ((j : ℕ) → List·Memᴰ j rest → Ahead job t i j) → i ≡ firstPick job t rest
   unfolding firstPick
   pick-is i [] m f = absurd (List·Memᴰ·not-nil m)
-  pick-is i (k ∷ ks) m f =
-      let a = f (leastOf job t k ks) (least-mem job t k ks) in
-      let b = least-ahead job t k ks m in
-      omega (arith, no-further a b, no-further b a)
+  pick-is i (k ∷ ks) m f = ahead-same job (f (leastOf job t k ks) (least-mem job t k ks)) (least-ahead job t k ks m)
 
   -- Ahead by the ready minute,
   pub sooner : {i j : ℕ} → job i .release < job j .release → t < job j .release → Ahead job t i j

@@ -9,11 +9,10 @@ use mathlib.Core.Logic.{_⊎_, inl, inr}
 use Rattle.theory.specs.Jobs.{Job}
 use Rattle.schedule.specs.Rows.{without}
 use Rattle.schedule.specs.Picks.{firstPick, others, secondPick}
-use Rattle.schedule.proofs.Tests.{Compared, compared}
+use Rattle.schedule.proofs.Tests.{apart, Compared, compared}
 use Rattle.schedule.proofs.PickLaws.{Ahead, ahead-refl}
 use Rattle.picks.specs.Bits.{mark, Words, Least}
 use Rattle.picks.specs.Standing.{Tables, Stands, Late}
-use Rattle.picks.proofs.Bits.{apart}
 use Rattle.picks.proofs.Sets.{away-words}
 use Rattle.picks.proofs.Firsts.{pick-is, sooner, ranked, second-is}
 use Rattle.picks.proofs.Standings.{no-zero, stands-away, stands-next}

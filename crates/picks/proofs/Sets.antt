@@ -12,8 +12,9 @@ use lib.Pow.{pow-lt}
 use lib.ListN.{getD, set, length-set}
 use lib.Seq.{getD-set-same, getD-set-other}
 use borrow.Author.Tests.{eqb-true, eqb-false, ltb-true, ltb-false}
+use Rattle.schedule.proofs.Tests.{apart}
 use Rattle.picks.specs.Bits.{bit, word, mark, Words, Least}
-use Rattle.picks.proofs.Bits.{apart, word-small, word-same, mark-other, mark-out, word-split, word-none, word-zero, Zeros, zeros}
+use Rattle.picks.proofs.Bits.{word-small, word-same, mark-other, mark-out, word-split, word-none, word-zero, Zeros, zeros}
 
 -- The code's power of two.
 abbrev power : ℕ → ℕ

@@ -10,9 +10,10 @@ use mathlib.Core.Logic.{_⊎_, inl, inr}
 use Rattle.theory.specs.Jobs.{Job}
 use Rattle.schedule.specs.Rows.{without}
 use Rattle.schedule.proofs.Orders.{mem-without}
+use Rattle.schedule.proofs.Tests.{apart}
 use Rattle.picks.specs.Bits.{mark, Words}
 use Rattle.picks.specs.Standing.{Tables, Stands, Late}
-use Rattle.picks.proofs.Bits.{apart, mark-same, mark-other}
+use Rattle.picks.proofs.Bits.{mark-same, mark-other}
 use Rattle.picks.proofs.Rests.{kept-without, other-without, apart-without}
 
 module _ {n : ℕ} {job : ℕ → Job} {by : ℕ → ℕ} (r : Tables n job by) {t : ℕ} {rest : List ℕ} {next : ℕ} {ws : List ℕ} (s : Stands n job by t rest next ws) where

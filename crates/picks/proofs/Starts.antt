@@ -11,8 +11,9 @@ use Rattle.schedule.specs.Rows.{countFrom}
 use Rattle.schedule.specs.Offset.{deskAt}
 use Rattle.schedule.specs.declared.Desk.{Desk}
 use Rattle.schedule.proofs.Numbers.{length-count, count-range, from-mem}
+use Rattle.schedule.proofs.Tests.{apart}
 use Rattle.picks.specs.Standing.{Apart, Tables, Stands, Late, Sits}
-use Rattle.picks.proofs.Bits.{apart, word-zero}
+use Rattle.picks.proofs.Bits.{word-zero}
 
 count-apart : (i m : ℕ) → Apart (countFrom i m)
 unfolding countFrom

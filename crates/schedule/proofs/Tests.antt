@@ -7,6 +7,10 @@ use mathlib.Core.Path.{_≡_, refl, sym, subst}
 use mathlib.Core.Logic.{_⊎_, inl, inr}
 use lib.Dec.{T}
 
+-- False is not true.
+pub apart : {A : Type 0} → _≡_ {A = Bool} false true → A
+apart e = let z : ⊥ = subst T (sym e) tt in absurd z
+
 pub both : (a b : Bool) → T a → T b → T (a && b)
 both true b s t = t
 both false b s t = s

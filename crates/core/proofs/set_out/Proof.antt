@@ -20,7 +20,7 @@ onward-requires c κs =
     let p = c .before .before .before .before .before .pre in
     let s = c .before .before .before .before .start .ensures in
     let r = c .before .before .run-on .ensures _ (s .0 (a .length .now) (a .due .now) (p .1 .0)) in
-    (p .0, (p .1 .0, (r .places, p .1 .1 .2, (a .free, came-first _ _ _ (p .0) _ _ _ _ _ _ _ (s .1) (s .2) r))))
+    (p .0, (p .1 .0, (r .places, p .1 .1 .2, (a .free, came-first _ _ _ (p .0) _ _ _ (s .1) (s .2) _ _ _ r _))))
 
 same-length : tie.Need-same-length
 same-length c = search needs
@@ -32,7 +32,7 @@ returns c =
     let s = c .before .before .before .before .before .before .start .ensures in
     let r = c .before .before .before .before .run-on .ensures _ (s .0 (a .length .now) (a .due .now) (p .1 .0)) in
     let o = c .before .onward .ensures in
-    (o .0, o .1, o .2 (a .free) (came-first _ _ _ (p .0) _ _ _ _ _ _ _ (s .1) (s .2) r))
+    (o .0, o .1, o .2 (a .free) (came-first _ _ _ (p .0) _ _ _ (s .1) (s .2) _ _ _ r _))
 
 pub set-out-spec : {M : Type 1} → statement M
 set-out-spec =
