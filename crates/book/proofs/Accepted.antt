@@ -11,6 +11,8 @@ use lib.Signed.{ltZ}
 use borrow.Author.Tests.{ltb-true, ltb-false, lt-ltb}
 use Rattle.schedule.specs.declared.Row.{Row}
 use Rattle.schedule.specs.Rows.{noRow, row, job, allRows}
+use Rattle.theory.specs.Jobs.{Job}
+use Rattle.schedule.specs.Promise.{Agreeing}
 use Rattle.schedule.specs.Ranges.{Ranged}
 use Rattle.schedule.proofs.Tests.{neither}
 use Rattle.schedule.proofs.Numbers.{length-count}
@@ -42,11 +44,11 @@ module _ (rows : List Row) where
       go true p q = let g = r i (p refl) in (g .release, g .most, g .due)
       go false p q = rw (List·getD-eq-default rows noRow (q refl)) ((omega arith, omega arith, omega arith))
 
-pub accepted-book : (ws : List ℕ) (free : ℕ) (rows : List Row) → readBook ws ≡ accepted free rows → AcceptedBook free rows
+pub accepted-book : (ws : List ℕ) (free : ℕ) (rows : List Row) → readBook ws ≡ accepted free rows → AcceptedBook Agreeing free rows
 accepted-book ws free rows e =
     let w = whole ws free rows e in
     record {
-      agree = λ i j m n. agrees (row rows i) (row rows j) (passed-agree rows (ordered ws free rows e) i j m n);
+      rule = λ i j m n. agrees (row rows i) (row rows j) (passed-agree rows (ordered ws free rows e) i j m n);
       early = omega (arith, w .free, w .head .free .most);
       some-row = w .some;
       few-rows = w .few;
@@ -56,5 +58,5 @@ accepted-book ws free rows e =
     }
 
 -- The ranges as the schedule asks for them: so ends are at most 17,680,000 and lateness lies between -19,999,999 and 17,680,000.
-pub accepted-ranged : {free : ℕ} {rows : List Row} → AcceptedBook free rows → Ranged 10000000 1 30000 20000000 256 (job rows) free (allRows rows)
+pub accepted-ranged : {Rule : (ℕ → Job) → List ℕ → Type 0} {free : ℕ} {rows : List Row} → AcceptedBook Rule free rows → Ranged 10000000 1 30000 20000000 256 (job rows) free (allRows rows)
 accepted-ranged {free} {rows} a = record { early = a .early; few = omega (arith, length-count 1 (length rows), a .few-rows); ranges = a .ranged }

@@ -6,6 +6,8 @@ use mathlib.Core.Path.{_≡_, refl, sym, ap, _∙_}
 use mathlib.Core.List.{List, []}
 use lib.ListN.{length, drop, getD}
 use Rattle.schedule.specs.declared.Row.{Row}
+use Rattle.theory.specs.Jobs.{Job}
+use Rattle.schedule.specs.Promise.{Agreeing}
 use Rattle.schedule.specs.Rows.{noRow}
 use Rattle.book.specs.declared.Tested.{Tested}
 use Rattle.book.specs.declared.Tested.the-variants.{Passed, Refused}
@@ -65,12 +67,15 @@ rows-fit ws p =
     (t .few, λ i l. let r = t .ranged p (λ j m. let x : ⊥ = omega arith in absurd x) i l in (r .release, r .most, r .due)))
 
 -- What a caller knows of a reading that passed: the table's rows are those that the definition gives, they agree and are in range, and each is found at its place.
-pub record Given (ws : List ℕ) (t : Table) : Type 0 where
-  pub contents : readBook ws ≡ accepted (t .free) (tableRows t)
-  pub book : AcceptedBook (t .free) (tableRows t)
+pub record GivenBy (reads : List ℕ → Contents) (Rule : (ℕ → Job) → List ℕ → Type 0) (ws : List ℕ) (t : Table) : Type 0 where
+  pub contents : reads ws ≡ accepted (t .free) (tableRows t)
+  pub book : AcceptedBook Rule (t .free) (tableRows t)
   pub size : length (tableRows t) ≡ t .count
   pub places : length (t .rows) ≡ 256
   pub row : (i : ℕ) → i < t .count → getD (tableRows t) i noRow ≡ getD (t .rows) i noRow
+
+abbrev pub Given : List ℕ → Table → Type 0
+Given = GivenBy readBook Agreeing
 
 given-of : (ws : List ℕ) (x : Contents) → readBook ws ≡ x → readingOf x .outcome ≡ Passed → Given ws (readingOf x .table)
 unfolding readingOf tableOf

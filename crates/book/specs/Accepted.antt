@@ -1,16 +1,17 @@
--- What is known of an accepted book: its rows agree, and every number is in its range. The proof is `accepted-book`, in proofs/Accepted.antt.
--- Rests on: Due, the schedule's Rows and Promise.
+-- What is known of an accepted book: its rows keep the rule that they were tested by, and every number is in its range. For test 8 the rule is that
+-- they agree; the proof is `accepted-book`, in proofs/Accepted.antt.
+-- Rests on: Due, the schedule's Rows.
 use Prim.Native.Nat.{ℕ, _≤_, _<_}
 use mathlib.Core.List.{List, List·Memᴰ}
 use lib.ListN.{length}
+use Rattle.theory.specs.Jobs.{Job}
 use Rattle.schedule.specs.declared.Row.{Row}
 use Rattle.schedule.specs.Rows.{row, job, allRows}
-use Rattle.schedule.specs.Promise.{Agreeing}
 use Rattle.book.specs.Due.{ClassDue}
 
-pub record AcceptedBook (free : ℕ) (rows : List Row) : Type 0 where
-  -- Of two rows the one due later has no more spare.
-  pub agree : Agreeing (job rows) (allRows rows)
+pub record AcceptedBook (Rule : (ℕ → Job) → List ℕ → Type 0) (free : ℕ) (rows : List Row) : Type 0 where
+  -- The rule of the rows.
+  pub rule : Rule (job rows) (allRows rows)
   -- The free minute.
   pub early : free ≤ 10000000
   -- 1 to 256 rows.

@@ -3,7 +3,7 @@
 ghost use mathlib.Core.Path.{_≡_};
 ghost use Rattle.book.specs.Book.{rowPlace};
 ghost use Rattle.planner.specs.Answers.{saidNo, saidList, saidOrder, saidVerdict, saidPlace};
-ghost use Rattle.planner.specs.Calls.{listCall, boundCall, planCall, verdictCall};
+ghost use Rattle.planner.specs.Calls.{orderingRule, listCall, boundCall, planCall, verdictCall};
 ghost use Rattle.jelvaksna.specs.Boundary.{answerOf};
 use book::Found;
 use planner::Judged;
@@ -103,8 +103,8 @@ fn of_place(answer: Found) -> Answer
 // The list: two words for each plan, end and worst lateness in two's complement, by rising end.
 #[no_mangle]
 pub extern "C" fn jelvaksna_list(book: &[u32], result: &mut [u32]) -> Answer
-    ensures { λ r. ⌜ r ≡ answerOf (saidList (listCall (now (book .entry)) (now (result .entry)) .answer)) ⌝ }
-    ensures { λ _. ⌜ now (result .exit) ≡ listCall (now (book .entry)) (now (result .entry)) .buffer ⌝ }
+    ensures { λ r. ⌜ r ≡ answerOf (saidList (listCall orderingRule (now (book .entry)) (now (result .entry)) .answer)) ⌝ }
+    ensures { λ _. ⌜ now (result .exit) ≡ listCall orderingRule (now (book .entry)) (now (result .entry)) .buffer ⌝ }
 {
     of_list(planner::list(book, result))
 }
@@ -112,8 +112,8 @@ pub extern "C" fn jelvaksna_list(book: &[u32], result: &mut [u32]) -> Answer
 // The order for a bound on lateness: its row numbers, and its own pair.
 #[no_mangle]
 pub extern "C" fn jelvaksna_order_for_bound(book: &[u32], bound: i32, result: &mut [u32]) -> Answer
-    ensures { λ r. ⌜ r ≡ answerOf (saidOrder (boundCall (now (book .entry)) bound (now (result .entry)) .answer)) ⌝ }
-    ensures { λ _. ⌜ now (result .exit) ≡ boundCall (now (book .entry)) bound (now (result .entry)) .buffer ⌝ }
+    ensures { λ r. ⌜ r ≡ answerOf (saidOrder (boundCall orderingRule (now (book .entry)) bound (now (result .entry)) .answer)) ⌝ }
+    ensures { λ _. ⌜ now (result .exit) ≡ boundCall orderingRule (now (book .entry)) bound (now (result .entry)) .buffer ⌝ }
 {
     of_order(planner::order_for_bound(book, bound, result))
 }
@@ -121,8 +121,8 @@ pub extern "C" fn jelvaksna_order_for_bound(book: &[u32], bound: i32, result: &m
 // The order of a listed plan by its number from 1.
 #[no_mangle]
 pub extern "C" fn jelvaksna_order_of_plan(book: &[u32], plan: u32, result: &mut [u32]) -> Answer
-    ensures { λ r. ⌜ r ≡ answerOf (saidOrder (planCall (now (book .entry)) plan (now (result .entry)) .answer)) ⌝ }
-    ensures { λ _. ⌜ now (result .exit) ≡ planCall (now (book .entry)) plan (now (result .entry)) .buffer ⌝ }
+    ensures { λ r. ⌜ r ≡ answerOf (saidOrder (planCall orderingRule (now (book .entry)) plan (now (result .entry)) .answer)) ⌝ }
+    ensures { λ _. ⌜ now (result .exit) ≡ planCall orderingRule (now (book .entry)) plan (now (result .entry)) .buffer ⌝ }
 {
     of_order(planner::order_of_plan(book, plan, result))
 }
@@ -130,7 +130,7 @@ pub extern "C" fn jelvaksna_order_of_plan(book: &[u32], plan: u32, result: &mut 
 // The verdict on a posted order of row numbers.
 #[no_mangle]
 pub extern "C" fn jelvaksna_verdict(book: &[u32], posting: &[u32]) -> Answer
-    ensures { λ r. ⌜ r ≡ answerOf (saidVerdict (verdictCall (now (book .entry)) (now (posting .entry)))) ⌝ }
+    ensures { λ r. ⌜ r ≡ answerOf (saidVerdict (verdictCall orderingRule (now (book .entry)) (now (posting .entry)))) ⌝ }
 {
     of_verdict(planner::verdict(book, posting))
 }

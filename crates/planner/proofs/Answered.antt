@@ -22,7 +22,7 @@ use Rattle.schedule.proofs.Numbers.{length-count, count-range}
 use Rattle.book.specs.declared.Table.{Table}
 use Rattle.book.specs.declared.Tested.the-variants as tested
 use Rattle.book.specs.Book.{tableRows}
-use Rattle.book.proofs.Readings.{Given}
+use Rattle.book.proofs.Readings.{GivenBy, Given}
 use Rattle.core.specs.declared.Front.{Front}
 use Rattle.core.specs.Taking.{deskThrough}
 use Rattle.core.proofs.Signs.{through-minute, followed-late}
@@ -33,7 +33,7 @@ use Rattle.planner.specs.declared.Ordered.the-variants as ordered
 use Rattle.planner.specs.declared.Judged.{Judged}
 use Rattle.planner.specs.declared.Judged.the-variants as judged
 use Rattle.planner.specs.Posting.{postingTests}
-use Rattle.planner.specs.Calls.{Outcome, gives, written, planWords, nth, plansOf, orderOutcome, listCall, boundCall, planCall, judgedOf, verdictCall}
+use Rattle.planner.specs.Calls.{Outcome, gives, written, planWords, nth, plansOf, Profile, orderingRule, orderOutcome, listCall, boundCall, planCall, judgedOf, verdictCall}
 use Rattle.rows.specs.Apart.{jobsOf, Apart}
 use Rattle.planner.specs.Working.{Plannable, pairAt, held, Sized}
 use Rattle.planner.proofs.CallLaws.{list-narrow, list-is, bound-is, plan-is, plan-unlisted, verdict-no, verdict-is}
@@ -41,68 +41,44 @@ use Rattle.planner.proofs.Held.{held-length, held-at, nth-in, nth-zero,
 use Rattle.planner.proofs.Plannings.{same-jobs, plannable, plans-rows}
 use Rattle.planner.proofs.Promise.{promise, posted-order}
 
-module _ (ws : List ℕ) (t : Table) (g : Given ws t) where
-  -- The list.
-  pub list-short : (b : List ℕ) → length b < 2 * t .count → gives (listed.Refused 9 0) b ≡ listCall ws b
-  list-short b h = sym (list-narrow ws (t .free) (tableRows t) (g .contents) b (omega (arith, g .size)))
+-- The signed number that is raised comes back.
+pub bound-back : (y : ℤ) (n : ℕ) → SFits w32 y → n ≡ raised (toZ w32 (ofZ w32 y)) → lowered n ≡ y
+bound-back y n f e = ap lowered (e ∙ ap raised (toZ-ofZ w32 y f)) ∙ lowered-raised y (f .sfits)
+
+-- By any profile, whatever the rule that its rows keep.
+module _ (profile : Profile) {Rule : (ℕ → Job) → List ℕ → Type 0} (ws : List ℕ) (t : Table) (g : GivenBy (profile .reads) Rule ws t) where
+  pub list-short : (b : List ℕ) → length b < 2 * t .count → gives (listed.Refused 9 0) b ≡ listCall profile ws b
+  list-short b h = sym (list-narrow profile ws (t .free) (tableRows t) (g .contents) b (omega (arith, g .size)))
+
+  pub bound-done : (y : ℤ) (b : List ℕ) (o : Outcome Ordered) → o ≡ orderOutcome profile (tableRows t) (t .free) y b → o ≡ boundCall profile ws y b
+  bound-done y b o e = e ∙ sym (bound-is profile ws (t .free) (tableRows t) (g .contents) y b)
+
+  pub verdict-stray : (posting : List ℕ) (n p : ℕ) → postingTests (t .count) posting ≡ tested.Refused n p → judged.Refused n p ≡ verdictCall profile ws posting
+  verdict-stray posting n p e =
+      sym (verdict-no profile ws (t .free) (tableRows t) (g .contents) posting n p (subst (λ (k : ℕ). postingTests k posting ≡ tested.Refused n p) (sym (g .size)) e))
 
   module _ (c : Columns) (a : Apart (tableRows t) c) where
-    pub may-plan : Plannable c (t .count) (t .free)
+    pub may-plan : Plannable Rule c (t .count) (t .free)
     may-plan = plannable a (t .count) (t .free) (sym (g .size)) (g .book)
 
-    module _ (f : Front) (s : Sized f) (h : held f ≡ plans (jobsOf c) (t .free) (countFrom 1 (t .count))) where
-      held-plans : held f ≡ plansOf (tableRows t) (t .free)
-      held-plans = h ∙ plans-rows a (t .count) (t .free) (sym (g .size))
+    -- The desk after an order of at least one row has the order's pair.
+    pub order-pair : (order : List ℕ) → 1 ≤ length order → (desk : Desk) → desk ≡ deskThrough (jobsOf c) (deskAt (t .free)) order →
+        pairAt (desk .minute) (desk .worst) ≡ pairOf (job (tableRows t)) (t .free) order
+    order-pair order l desk e =
+        (λ x. pairAt (e x .minute) (e x .worst)) ∙
+        ((λ x. record {
+          end = through-minute (jobsOf c) (deskAt (t .free)) order x;
+          late = followed-late (jobsOf c) (may-plan .limits) (t .free) order l x;
+        }) ∙
+        ap (λ (jobs : ℕ → Job). pairOf jobs (t .free) order) (same-jobs a))
 
-      count-plans : f .count ≡ length (plansOf (tableRows t) (t .free))
-      count-plans = sym (held-length f s) ∙ ap {B = ℕ} length held-plans
-
-      -- There is room for the plans in 256 places, and in a buffer of two words for each row.
-      pub few-plans : f .count ≤ t .count
-      few-plans = omega (arith, count-plans, promise (g .book) .few .1, length-count 1 (length (tableRows t)), g .size)
-
-      pub list-done : (b after : List ℕ) → 2 * t .count ≤ length b → after ≡ written (planWords (held f)) b → gives (listed.Plans (f .count)) after ≡ listCall ws b
-      list-done b after wide e =
-          (λ x. gives (listed.Plans (count-plans x)) ((e ∙ ap (λ (ps : List Pair). written (planWords ps) b) held-plans) x)) ∙
-          sym (list-is ws (t .free) (tableRows t) (g .contents) b (omega (arith, g .size)))
-
-      -- The order of a listed plan.
-      pub plan-none : (k : ℕ) → k ≡ 0 → (b : List ℕ) → gives (ordered.Refused 11 (f .count)) b ≡ planCall ws k b
-      plan-none k z b =
-          ap (λ (n : ℕ). gives (ordered.Refused 11 n) b) count-plans ∙
-          sym (plan-unlisted ws (t .free) (tableRows t) (g .contents) k b (ap (nth (plansOf (tableRows t) (t .free))) z ∙ nth-zero (plansOf (tableRows t) (t .free))))
-
-      pub plan-past : (k : ℕ) → f .count < k → (b : List ℕ) → gives (ordered.Refused 11 (f .count)) b ≡ planCall ws k b
-      plan-past k l b =
-          ap (λ (n : ℕ). gives (ordered.Refused 11 n) b) count-plans ∙
-          sym (plan-unlisted ws (t .free) (tableRows t) (g .contents) k b (nth-out (plansOf (tableRows t) (t .free)) k (omega (arith, count-plans))))
-
-      pub plan-done : (k : ℕ) → 1 ≤ k → k ≤ f .count → (b : List ℕ) (o : Outcome Ordered) → o ≡ orderOutcome (tableRows t) (t .free) (lowered (getD (f .lates) (k - 1) 0)) b → o ≡ planCall ws k b
-      plan-done k l m b o e =
-          let p : Pair = pairAt (getD (f .ends) (k - 1) 0) (getD (f .lates) (k - 1) 0) in
-          let ps = plansOf (tableRows t) (t .free) in
-          let q = nth-in ps k p l (omega (arith, count-plans)) in
-          let i = ap (λ (rs : List Pair). getD rs (k - 1) p) (sym held-plans) ∙ held-at f s (k - 1) p (omega arith) in
-          e ∙ sym (plan-is ws (t .free) (tableRows t) (g .contents) k p b (q ∙ ap some i))
-
-  -- The order for a bound: the signed number that is raised comes back.
-  pub bound-back : (y : ℤ) (n : ℕ) → SFits w32 y → n ≡ raised (toZ w32 (ofZ w32 y)) → lowered n ≡ y
-  bound-back y n f e = ap lowered (e ∙ ap raised (toZ-ofZ w32 y f)) ∙ lowered-raised y (f .sfits)
-
-  pub bound-done : (y : ℤ) (b : List ℕ) (o : Outcome Ordered) → o ≡ orderOutcome (tableRows t) (t .free) y b → o ≡ boundCall ws y b
-  bound-done y b o e = e ∙ sym (bound-is ws (t .free) (tableRows t) (g .contents) y b)
-
-  -- The verdict.
-  pub verdict-stray : (posting : List ℕ) (n p : ℕ) → postingTests (t .count) posting ≡ tested.Refused n p → judged.Refused n p ≡ verdictCall ws posting
-  verdict-stray posting n p e =
-      sym (verdict-no ws (t .free) (tableRows t) (g .contents) posting n p (subst (λ (k : ℕ). postingTests k posting ≡ tested.Refused n p) (sym (g .size)) e))
-
+  -- A posting that passed its tests.
   module _ (posting : List ℕ) (passed : postingTests (t .count) posting ≡ tested.Passed) where
-    passed-rows : postingTests (length (tableRows t)) posting ≡ tested.Passed
+    pub passed-rows : postingTests (length (tableRows t)) posting ≡ tested.Passed
     passed-rows = subst (λ (n : ℕ). postingTests n posting ≡ tested.Passed) (sym (g .size)) passed
 
     whole : OrderOf (allRows (tableRows t)) posting
-    whole = posted-order ws (t .free) (tableRows t) (g .contents) posting passed-rows
+    whole = posted-order (tableRows t) posting passed-rows
 
     pub posting-length : length posting ≡ t .count
     posting-length = perm-count whole .0 ∙ length-count 1 (length (tableRows t)) ∙ g .size
@@ -115,18 +91,51 @@ module _ (ws : List ℕ) (t : Table) (g : Given ws t) where
         small (x ∷ l) zero h = h x (List·Memᴰ·head refl)
         small (x ∷ l) (suc k) h = small l k (λ i m. h i (List·Memᴰ·tail m))
 
-    module _ (c : Columns) (a : Apart (tableRows t) c) (f : Front) (s : Sized f) (h : held f ≡ plans (jobsOf c) (t .free) (countFrom 1 (t .count)))
-        (desk : Desk) (e : desk ≡ deskThrough (jobsOf c) (deskAt (t .free)) posting) where
-      desk-pair : pairAt (desk .minute) (desk .worst) ≡ pairOf (job (tableRows t)) (t .free) posting
-      desk-pair =
-          (λ x. pairAt (e x .minute) (e x .worst)) ∙
-          ((λ x. record {
-            end = through-minute (jobsOf c) (deskAt (t .free)) posting x;
-            late = followed-late (jobsOf c) (may-plan c a .limits) (t .free) posting (omega (arith, posting-length, g .book .some-row, g .size)) x;
-          }) ∙
-          ap (λ (jobs : ℕ → Job). pairOf jobs (t .free) posting) (same-jobs a))
+    pub posting-pair : (c : Columns) → Apart (tableRows t) c → (desk : Desk) → desk ≡ deskThrough (jobsOf c) (deskAt (t .free)) posting →
+        pairAt (desk .minute) (desk .worst) ≡ pairOf (job (tableRows t)) (t .free) posting
+    posting-pair c a = order-pair c a posting (omega (arith, posting-length, g .book .some-row, g .size))
 
-      pub verdict-done : (v : Judged) → v ≡ judgedOf (pairAt (desk .minute) (desk .worst)) (firstBeating 1 (held f) (pairAt (desk .minute) (desk .worst))) → v ≡ verdictCall ws posting
-      verdict-done v r =
-          r ∙ ((λ x. judgedOf (desk-pair x) (firstBeating 1 (held-plans c a f s h x) (desk-pair x))) ∙
-          sym (verdict-is ws (t .free) (tableRows t) (g .contents) posting passed-rows))
+-- By the ordering rule: the core's list holds the plans.
+module _ (ws : List ℕ) (t : Table) (g : Given ws t) (c : Columns) (a : Apart (tableRows t) c) (f : Front) (s : Sized f) (h : held f ≡ plans (jobsOf c) (t .free) (countFrom 1 (t .count))) where
+  held-plans : held f ≡ plansOf (tableRows t) (t .free)
+  held-plans = h ∙ plans-rows a (t .count) (t .free) (sym (g .size))
+
+  count-plans : f .count ≡ length (plansOf (tableRows t) (t .free))
+  count-plans = sym (held-length f s) ∙ ap {B = ℕ} length held-plans
+
+  -- There is room for the plans in 256 places, and in a buffer of two words for each row.
+  pub few-plans : f .count ≤ t .count
+  few-plans = omega (arith, count-plans, promise (g .book) .few .1, length-count 1 (length (tableRows t)), g .size)
+
+  pub list-done : (b after : List ℕ) → 2 * t .count ≤ length b → after ≡ written (planWords (held f)) b → gives (listed.Plans (f .count)) after ≡ listCall orderingRule ws b
+  list-done b after wide e =
+      (λ x. gives (listed.Plans (count-plans x)) ((e ∙ ap (λ (ps : List Pair). written (planWords ps) b) held-plans) x)) ∙
+      sym (list-is orderingRule ws (t .free) (tableRows t) (g .contents) b (omega (arith, g .size)))
+
+  -- The order of a listed plan.
+  pub plan-none : (k : ℕ) → k ≡ 0 → (b : List ℕ) → gives (ordered.Refused 11 (f .count)) b ≡ planCall orderingRule ws k b
+  plan-none k z b =
+      ap (λ (n : ℕ). gives (ordered.Refused 11 n) b) count-plans ∙
+      sym (plan-unlisted orderingRule ws (t .free) (tableRows t) (g .contents) k b (ap (nth (plansOf (tableRows t) (t .free))) z ∙ nth-zero (plansOf (tableRows t) (t .free))))
+
+  pub plan-past : (k : ℕ) → f .count < k → (b : List ℕ) → gives (ordered.Refused 11 (f .count)) b ≡ planCall orderingRule ws k b
+  plan-past k l b =
+      ap (λ (n : ℕ). gives (ordered.Refused 11 n) b) count-plans ∙
+      sym (plan-unlisted orderingRule ws (t .free) (tableRows t) (g .contents) k b (nth-out (plansOf (tableRows t) (t .free)) k (omega (arith, count-plans))))
+
+  pub plan-done : (k : ℕ) → 1 ≤ k → k ≤ f .count → (b : List ℕ) (o : Outcome Ordered) → o ≡ orderOutcome orderingRule (tableRows t) (t .free) (lowered (getD (f .lates) (k - 1) 0)) b →
+      o ≡ planCall orderingRule ws k b
+  plan-done k l m b o e =
+      let p : Pair = pairAt (getD (f .ends) (k - 1) 0) (getD (f .lates) (k - 1) 0) in
+      let ps = plansOf (tableRows t) (t .free) in
+      let q = nth-in ps k p l (omega (arith, count-plans)) in
+      let i = ap (λ (rs : List Pair). getD rs (k - 1) p) (sym held-plans) ∙ held-at f s (k - 1) p (omega arith) in
+      e ∙ sym (plan-is orderingRule ws (t .free) (tableRows t) (g .contents) k p b (q ∙ ap some i))
+
+  -- The verdict.
+  pub verdict-done : (posting : List ℕ) → postingTests (t .count) posting ≡ tested.Passed → (desk : Desk) → desk ≡ deskThrough (jobsOf c) (deskAt (t .free)) posting →
+      (v : Judged) → v ≡ judgedOf (pairAt (desk .minute) (desk .worst)) (firstBeating 1 (held f) (pairAt (desk .minute) (desk .worst))) → v ≡ verdictCall orderingRule ws posting
+  verdict-done posting passed desk e v r =
+      let pair = posting-pair orderingRule ws t g posting passed c a desk e in
+      r ∙ ((λ x. judgedOf (pair x) (firstBeating 1 (held-plans x) (pair x))) ∙
+      sym (verdict-is orderingRule ws (t .free) (tableRows t) (g .contents) posting (passed-rows orderingRule ws t g posting passed)))

@@ -19,75 +19,74 @@ use Rattle.schedule.proofs.Signed.{up, down}
 use Rattle.book.specs.declared.Tested.the-variants as tested
 use Rattle.book.specs.Refusals.{byNarrow, byUnlisted, byUnkept}
 use Rattle.book.specs.Rows.{refused, accepted}
-use Rattle.book.specs.Book.{readBook}
 use Rattle.planner.specs.declared.Listed.the-variants as listed
 use Rattle.planner.specs.declared.Ordered.the-variants as ordered
 use Rattle.planner.specs.declared.Judged.the-variants as judged
 use Rattle.planner.specs.Posting.{postingTests}
-use Rattle.planner.specs.Calls.{gives, written, complement, planWords, nth, plansOf, orderOf, listCall, orderOutcome, boundCall, planCall, judgedOf, verdictCall}
+use Rattle.planner.specs.Calls.{gives, written, complement, planWords, nth, Profile, listCall, orderOutcome, boundCall, planCall, judgedOf, verdictCall}
 use Rattle.planner.specs.Promise.{signed, plansIn}
 
 -- A refused book turns every call down.
-module _ (book : List ℕ) (n p : ℕ) (reads : readBook book ≡ refused n p) where
-  pub list-refused : (b : List ℕ) → listCall book b ≡ gives (listed.Refused n p) b
+module _ (profile : Profile) (book : List ℕ) (n p : ℕ) (reads : profile .reads book ≡ refused n p) where
+  pub list-refused : (b : List ℕ) → listCall profile book b ≡ gives (listed.Refused n p) b
   unfolding listCall
   list-refused b = rw (reads, listCall)
 
-  pub bound-refused : (y : ℤ) (b : List ℕ) → boundCall book y b ≡ gives (ordered.Refused n p) b
+  pub bound-refused : (y : ℤ) (b : List ℕ) → boundCall profile book y b ≡ gives (ordered.Refused n p) b
   unfolding boundCall
   bound-refused y b = rw (reads, boundCall)
 
-  pub plan-refused : (k : ℕ) (b : List ℕ) → planCall book k b ≡ gives (ordered.Refused n p) b
+  pub plan-refused : (k : ℕ) (b : List ℕ) → planCall profile book k b ≡ gives (ordered.Refused n p) b
   unfolding planCall
   plan-refused k b = rw (reads, planCall)
 
-  pub verdict-refused : (posting : List ℕ) → verdictCall book posting ≡ judged.Refused n p
+  pub verdict-refused : (posting : List ℕ) → verdictCall profile book posting ≡ judged.Refused n p
   unfolding verdictCall
   verdict-refused posting = rw (reads, verdictCall)
 
 -- An accepted book.
-module _ (book : List ℕ) (free : ℕ) (rows : List Row) (reads : readBook book ≡ accepted free rows) where
-  pub list-narrow : (b : List ℕ) → length b < 2 * length rows → listCall book b ≡ gives (listed.Refused byNarrow 0) b
+module _ (profile : Profile) (book : List ℕ) (free : ℕ) (rows : List Row) (reads : profile .reads book ≡ accepted free rows) where
+  pub list-narrow : (b : List ℕ) → length b < 2 * length rows → listCall profile book b ≡ gives (listed.Refused byNarrow 0) b
   unfolding listCall
   list-narrow b h = rw (reads, lt-ltb (length b) (2 * length rows) h, listCall)
 
-  pub list-is : (b : List ℕ) → 2 * length rows ≤ length b → listCall book b ≡ gives (listed.Plans (length (plansOf rows free))) (written (planWords (plansOf rows free)) b)
+  pub list-is : (b : List ℕ) → 2 * length rows ≤ length b → listCall profile book b ≡ gives (listed.Plans (length (profile .lists rows free))) (written (planWords (profile .lists rows free)) b)
   unfolding listCall
   list-is b h = rw (reads, le-ltb (length b) (2 * length rows) h, listCall)
 
-  pub bound-is : (y : ℤ) (b : List ℕ) → boundCall book y b ≡ orderOutcome rows free y b
+  pub bound-is : (y : ℤ) (b : List ℕ) → boundCall profile book y b ≡ orderOutcome profile rows free y b
   unfolding boundCall
   bound-is y b = rw (reads, boundCall)
 
-  pub plan-is : (k : ℕ) (p : Pair) (b : List ℕ) → nth (plansOf rows free) k ≡ some p → planCall book k b ≡ orderOutcome rows free (p .late) b
+  pub plan-is : (k : ℕ) (p : Pair) (b : List ℕ) → nth (profile .lists rows free) k ≡ some p → planCall profile book k b ≡ orderOutcome profile rows free (p .late) b
   unfolding planCall
   plan-is k p b e = rw (reads, e, planCall)
 
-  pub plan-unlisted : (k : ℕ) (b : List ℕ) → nth (plansOf rows free) k ≡ none → planCall book k b ≡ gives (ordered.Refused byUnlisted (length (plansOf rows free))) b
+  pub plan-unlisted : (k : ℕ) (b : List ℕ) → nth (profile .lists rows free) k ≡ none → planCall profile book k b ≡ gives (ordered.Refused byUnlisted (length (profile .lists rows free))) b
   unfolding planCall
   plan-unlisted k b e = rw (reads, e, planCall)
 
-  pub verdict-no : (posting : List ℕ) (n p : ℕ) → postingTests (length rows) posting ≡ tested.Refused n p → verdictCall book posting ≡ judged.Refused n p
+  pub verdict-no : (posting : List ℕ) (n p : ℕ) → postingTests (length rows) posting ≡ tested.Refused n p → verdictCall profile book posting ≡ judged.Refused n p
   unfolding verdictCall
   verdict-no posting n p e = rw (reads, e, verdictCall)
 
   pub verdict-is : (posting : List ℕ) → postingTests (length rows) posting ≡ tested.Passed →
-      verdictCall book posting ≡ judgedOf (pairOf (job rows) free posting) (firstBeating 1 (plansOf rows free) (pairOf (job rows) free posting))
+      verdictCall profile book posting ≡ judgedOf (pairOf (job rows) free posting) (firstBeating 1 (profile .lists rows free) (pairOf (job rows) free posting))
   unfolding verdictCall
   verdict-is posting e = rw (reads, e, verdictCall)
 
-module _ (rows : List Row) (free : ℕ) (y : ℤ) (b : List ℕ) where
-  pub order-narrow : length b < length rows → orderOutcome rows free y b ≡ gives (ordered.Refused byNarrow 0) b
+module _ (profile : Profile) (rows : List Row) (free : ℕ) (y : ℤ) (b : List ℕ) where
+  pub order-narrow : length b < length rows → orderOutcome profile rows free y b ≡ gives (ordered.Refused byNarrow 0) b
   unfolding orderOutcome
   order-narrow h = rw (lt-ltb (length b) (length rows) h, orderOutcome)
 
   module _ (h : length rows ≤ length b) where
-    pub order-some : (order : List ℕ) → orderOf rows free y ≡ some order →
-        orderOutcome rows free y b ≡ gives (ordered.Pair (pairOf (job rows) free order .end) (pairOf (job rows) free order .late)) (written order b)
+    pub order-some : (order : List ℕ) → profile .orders rows free y ≡ some order →
+        orderOutcome profile rows free y b ≡ gives (ordered.Pair (pairOf (job rows) free order .end) (pairOf (job rows) free order .late)) (written order b)
     unfolding orderOutcome
     order-some order e = rw (le-ltb (length b) (length rows) h, e, orderOutcome)
 
-    pub order-none : orderOf rows free y ≡ none → orderOutcome rows free y b ≡ gives (ordered.Refused byUnkept 0) b
+    pub order-none : profile .orders rows free y ≡ none → orderOutcome profile rows free y b ≡ gives (ordered.Refused byUnkept 0) b
     unfolding orderOutcome
     order-none e = rw (le-ltb (length b) (length rows) h, e, orderOutcome)
 

@@ -30,7 +30,7 @@ use Rattle.core.specs.Answers.{Ordered as CoreOrdered}
 use Rattle.rows.specs.declared.Columns.{Columns}
 use Rattle.rows.specs.Apart.{jobsOf, Apart}
 use Rattle.planner.specs.declared.Ordered.the-variants as ordered
-use Rattle.planner.specs.Calls.{gives, written, plansOf, orderOf, orderOutcome}
+use Rattle.planner.specs.Calls.{gives, written, plansOf, orderOf, orderingRule, orderOutcome}
 use Rattle.planner.specs.Working.{Plannable, pairsOf, held, Sized}
 use Rattle.planner.proofs.CallLaws.{order-narrow, order-some, order-none}
 use Rattle.planner.proofs.Held.{pairs-back}
@@ -40,14 +40,14 @@ module _ {rows : List Row} {c : Columns} (a : Apart rows c) where
   pub same-jobs : jobsOf c ≡ job rows
   same-jobs = λ x i. a .jobs i x
 
-  pub plannable : (n free : ℕ) → n ≡ length rows → AcceptedBook free rows → Plannable c n free
-  plannable n free e b = record {
+  pub plannable : {Rule : (ℕ → Job) → List ℕ → Type 0} (n free : ℕ) → n ≡ length rows → AcceptedBook Rule free rows → Plannable Rule c n free
+  plannable {Rule} n free e b = record {
     limits = record {
       releases = λ i. subst (λ (j : Job). j .release ≤ 10000000) (sym (a .jobs i)) (b .limits i .0);
       lengths = λ i. subst (λ (j : Job). j .length ≤ 30000) (sym (a .jobs i)) (b .limits i .1);
       dues = λ i. subst (λ (j : Job). j .due ≤ 20000000) (sym (a .jobs i)) (b .limits i .2);
     };
-    agree = subst (λ (m : ℕ). Agreeing (jobsOf c) (countFrom 1 m)) (sym e) (subst (λ (f : ℕ → Job). Agreeing f (allRows rows)) (sym same-jobs) (b .agree));
+    rule = subst (λ (m : ℕ). Rule (jobsOf c) (countFrom 1 m)) (sym e) (subst (λ (f : ℕ → Job). Rule f (allRows rows)) (sym same-jobs) (b .rule));
     some = omega (arith, b .some-row);
     few = omega (arith, b .few-rows);
     early = b .early;
@@ -62,45 +62,45 @@ module _ {rows : List Row} {c : Columns} (a : Apart rows c) where
   order-rows : (n free : ℕ) → n ≡ length rows → (y : ℤ) → orderFor (jobsOf c) free (countFrom 1 n) y ≡ orderOf rows free y
   order-rows n free e y = λ x. orderFor (same-jobs x) free (countFrom 1 (e x)) y
 
-module _ (c : Columns) (n free : ℕ) (p : Plannable c n free) where
+module _ (c : Columns) (n free : ℕ) (p : Plannable Agreeing c n free) where
   -- The list that the core makes holds the plans.
   pub plans-held : (f : Front) → Listed (jobsOf c) n free f → Sized f × (held f ≡ plans (jobsOf c) free (countFrom 1 n))
   plans-held f l = (
     record { few = omega (arith, l .few, p .few); ends = l .end-places; lates = l .late-places },
-    (λ x. pairsOf (l .ends x) (l .lates x)) ∙ pairs-back (plans (jobsOf c) free (countFrom 1 n)) (plan-lowers (jobsOf c) n free (p .limits) (p .some) (p .few) (p .early) (p .agree)),
+    (λ x. pairsOf (l .ends x) (l .lates x)) ∙ pairs-back (plans (jobsOf c) free (countFrom 1 n)) (plan-lowers (jobsOf c) n free (p .limits) (p .some) (p .few) (p .early) (p .rule)),
   )
 
   -- The order that the core writes is the one for the bound.
   module _ {rows : List Row} (a : Apart rows c) (e : n ≡ length rows) (bound : ℕ) (b : List ℕ) where
-    pub order-short : length b < n → gives (ordered.Refused 9 0) b ≡ orderOutcome rows free (lowered bound) b
-    order-short h = sym (order-narrow rows free (lowered bound) b (omega arith))
+    pub order-short : length b < n → gives (ordered.Refused 9 0) b ≡ orderOutcome orderingRule rows free (lowered bound) b
+    order-short h = sym (order-narrow orderingRule rows free (lowered bound) b (omega arith))
 
     module _ (wide : n ≤ length b) (answer : Planned) (after : List ℕ) (r : CoreOrdered (jobsOf c) n free bound b answer after) where
-      unkept-by : (o : Option (List ℕ)) → orderFor (jobsOf c) free (countFrom 1 n) (lowered bound) ≡ o → plannedOf (jobsOf c) free o ≡ Unkept → gives (ordered.Refused 12 0) (writtenOf o b) ≡ orderOutcome rows free (lowered bound) b
+      unkept-by : (o : Option (List ℕ)) → orderFor (jobsOf c) free (countFrom 1 n) (lowered bound) ≡ o → plannedOf (jobsOf c) free o ≡ Unkept → gives (ordered.Refused 12 0) (writtenOf o b) ≡ orderOutcome orderingRule rows free (lowered bound) b
       unfolding plannedOf writtenOf
-      unkept-by none f u = sym (order-none rows free (lowered bound) b (omega arith) (sym (order-rows a n free e (lowered bound)) ∙ f))
+      unkept-by none f u = sym (order-none orderingRule rows free (lowered bound) b (omega arith) (sym (order-rows a n free e (lowered bound)) ∙ f))
       unkept-by (some order) f u = never (cc)
 
-      pub order-unkept : answer ≡ Unkept → gives (ordered.Refused 12 0) after ≡ orderOutcome rows free (lowered bound) b
+      pub order-unkept : answer ≡ Unkept → gives (ordered.Refused 12 0) after ≡ orderOutcome orderingRule rows free (lowered bound) b
       order-unkept u =
           ap (λ (w : List ℕ). gives (ordered.Refused 12 0) w) (r .buffer) ∙
           unkept-by (orderFor (jobsOf c) free (countFrom 1 n) (lowered bound)) refl (sym (r .answered) ∙ u)
 
       kept-by : (o : Option (List ℕ)) → orderFor (jobsOf c) free (countFrom 1 n) (lowered bound) ≡ o → (end late : ℕ) → plannedOf (jobsOf c) free o ≡ Kept end late →
-          gives (ordered.Pair end (lowered late)) (writtenOf o b) ≡ orderOutcome rows free (lowered bound) b
+          gives (ordered.Pair end (lowered late)) (writtenOf o b) ≡ orderOutcome orderingRule rows free (lowered bound) b
       unfolding plannedOf writtenOf written
       kept-by none f end late k = never (cc)
       kept-by (some order) f end late k =
           let g : endOf (jobsOf c) free order ≡ end = cc in
           let h : raised (pairOf (jobsOf c) free order .late) ≡ late = cc in
-          let o = promised (jobsOf c) free (countFrom 1 n) (p .agree) (omega (arith, length-count 1 n, p .some)) .best (lowered bound) order f .0 in
+          let o = promised (jobsOf c) free (countFrom 1 n) (p .rule) (omega (arith, length-count 1 n, p .some)) .best (lowered bound) order f .0 in
           let l = late-lowers (jobsOf c) (p .limits) free order (omega (arith, perm-count o .0, length-count 1 n, p .some)) in
           let y : lowered late ≡ pairOf (jobsOf c) free order .late = ap lowered (sym h) ∙ l in
           (λ x. gives (ordered.Pair (sym g x) (y x)) (order ++ drop (length order) b)) ∙
           ((λ x. gives (ordered.Pair (pairOf (same-jobs a x) free order .end) (pairOf (same-jobs a x) free order .late)) (order ++ drop (length order) b)) ∙
-          sym (order-some rows free (lowered bound) b (omega arith) order (sym (order-rows a n free e (lowered bound)) ∙ f)))
+          sym (order-some orderingRule rows free (lowered bound) b (omega arith) order (sym (order-rows a n free e (lowered bound)) ∙ f)))
 
-      pub order-kept : (end late : ℕ) → answer ≡ Kept end late → gives (ordered.Pair end (lowered late)) after ≡ orderOutcome rows free (lowered bound) b
+      pub order-kept : (end late : ℕ) → answer ≡ Kept end late → gives (ordered.Pair end (lowered late)) after ≡ orderOutcome orderingRule rows free (lowered bound) b
       order-kept end late k =
           ap (λ (w : List ℕ). gives (ordered.Pair end (lowered late)) w) (r .buffer) ∙
           kept-by (orderFor (jobsOf c) free (countFrom 1 n) (lowered bound)) refl end late (sym (r .answered) ∙ k)

@@ -15,7 +15,7 @@ use Rattle.book.specs.declared.Found.the-variants as found
 use Rattle.book.specs.Refusals.{openRefusals}
 use Rattle.book.specs.Rows.{Contents, refused, accepted}
 use Rattle.book.specs.Rows.{lengthOf as lengthFor}
-use Rattle.book.specs.Book.{readBook, rowPlace, rowWords, openBook}
+use Rattle.book.specs.Book.{openBook}
 use Rattle.planner.specs.declared.Listed.{Listed}
 use Rattle.planner.specs.declared.Listed.the-variants as listed
 use Rattle.planner.specs.declared.Ordered.{Ordered}
@@ -23,7 +23,7 @@ use Rattle.planner.specs.declared.Ordered.the-variants as ordered
 use Rattle.planner.specs.declared.Judged.{Judged}
 use Rattle.planner.specs.declared.Judged.the-variants as judged
 use Rattle.planner.specs.Posting.{openPosting}
-use Rattle.planner.specs.Calls.{Outcome, gives, listCall, boundCall, planCall, verdictCall, openCalls}
+use Rattle.planner.specs.Calls.{Outcome, gives, Profile, orderingRule, listCall, boundCall, planCall, verdictCall, placeCall, wordsCall, openCalls}
 use Rattle.planner.specs.Lines.{Line, Printed, listing, printed, openLines}
 
 -- A row of a book as the days give it: number, release, pages and due, or class.
@@ -116,16 +116,17 @@ pub data Told : Type 0 where
   finds : Found → Told
   takes : ℕ → Told
 
-abbrev pub answerTo : Asked → Told
-answerTo (reading b) = reads (readBook b)
-answerTo (printing b) = prints (printed b)
-answerTo (list b buffer) = lists (listCall b buffer)
-answerTo (bound b y buffer) = orders (boundCall b y buffer)
-answerTo (plan b k buffer) = orders (planCall b k buffer)
-answerTo (posting b order) = judges (verdictCall b order)
-answerTo (wordsOf b k) = words (rowWords b k)
-answerTo (placeOf b k) = finds (rowPlace b k)
-answerTo (lengthOf pages pace) = takes (lengthFor pages pace)
+-- By a profile; what slate prints is by the ordering rule, and a length is by none.
+abbrev pub answerTo : Profile → Asked → Told
+answerTo profile (reading b) = reads (profile .reads b)
+answerTo profile (printing b) = prints (printed b)
+answerTo profile (list b buffer) = lists (listCall profile b buffer)
+answerTo profile (bound b y buffer) = orders (boundCall profile b y buffer)
+answerTo profile (plan b k buffer) = orders (planCall profile b k buffer)
+answerTo profile (posting b order) = judges (verdictCall profile b order)
+answerTo profile (wordsOf b k) = words (wordsCall profile b k)
+answerTo profile (placeOf b k) = finds (placeCall profile b k)
+answerTo profile (lengthOf pages pace) = takes (lengthFor pages pace)
 
 pub record Day : Type 0 where
   pub asked : Asked
@@ -247,10 +248,16 @@ agree : {A B : Type 0} (f g : A → B) {l : List A} → map f l ≡ map g l → 
 agree f g e (List·Memᴰ·head p) = ap f p ∙ head-eq-of-cons-eq e ∙ ap g (sym p)
 agree f g e (List·Memᴰ·tail m) = agree f g (tail-eq-of-cons-eq e) m
 
-answered : map (λ (d : Day). answerTo (d .asked)) days ≡ map (λ (d : Day). d .told) days
+-- A table of days holds of a profile: each is answered as the table says.
+abbrev pub Hold : Profile → List Day → Type 0
+Hold profile table = (d : Day) → List·Memᴰ d table → answerTo profile (d .asked) ≡ d .told
+
+pub hold : (profile : Profile) (table : List Day) → map (λ (d : Day). answerTo profile (d .asked)) table ≡ map (λ (d : Day). d .told) table → Hold profile table
+hold profile table e d = agree (λ (d : Day). answerTo profile (d .asked)) (λ (d : Day). d .told) e
+
+answered : map (λ (d : Day). answerTo orderingRule (d .asked)) days ≡ map (λ (d : Day). d .told) days
 unfolding openRows openDesk openPicks openPlans openRefusals openBook openPosting openCalls openLines
 answered = refl
 
--- Every day of the table is answered as the table says.
-pub days-hold : (d : Day) → List·Memᴰ d days → answerTo (d .asked) ≡ d .told
-days-hold d = agree (λ (e : Day). answerTo (e .asked)) (λ (e : Day). e .told) answered
+pub days-hold : Hold orderingRule days
+days-hold = hold orderingRule days answered

@@ -5,19 +5,19 @@ use mathlib.Core.Path.{_≡_}
 use mathlib.Core.List.{List, [], _∷_}
 use mathlib.Core.Option.{Option, none, some}
 use lib.ListN.{length, take}
+use Rattle.theory.specs.Jobs.{Job}
 use Rattle.schedule.specs.Rows.{countFrom}
 use Rattle.schedule.specs.Desk.{Pair}
-use Rattle.schedule.specs.Promise.{Agreeing}
 use Rattle.schedule.specs.Offset.{lowered}
 use Rattle.core.specs.declared.Front.{Front}
 use Rattle.schedule.specs.Columns.{Limits}
 use Rattle.rows.specs.declared.Columns.{Columns}
 use Rattle.rows.specs.Apart.{jobsOf}
 
--- What the core asks of the columns, the count of rows and the free minute.
-pub record Plannable (c : Columns) (n free : ℕ) : Type 0 where
+-- What planning asks of the columns, the count of rows and the free minute; the rows keep the rule of the profile.
+pub record Plannable (Rule : (ℕ → Job) → List ℕ → Type 0) (c : Columns) (n free : ℕ) : Type 0 where
   pub limits : Limits (jobsOf c)
-  pub agree : Agreeing (jobsOf c) (countFrom 1 n)
+  pub rule : Rule (jobsOf c) (countFrom 1 n)
   pub some : 1 ≤ n
   pub few : n ≤ 256
   pub early : free ≤ 10000000

@@ -9,12 +9,13 @@ ghost use lib.ListN.{getD};
 ghost use Rattle.schedule.specs.declared.Row.{Row};
 ghost use Rattle.schedule.specs.Rows.{countFrom};
 ghost use Rattle.schedule.specs.Plans.{beats, plans, firstBeating};
+ghost use Rattle.schedule.specs.Promise.{Agreeing};
 ghost use Rattle.schedule.specs.Offset.{lowered, deskAt};
 ghost use Rattle.schedule.specs.Columns.{Limits};
 ghost use Rattle.core.specs.Taking.{deskThrough};
 ghost use Rattle.rows.specs.Apart.{jobsOf, Apart};
 ghost use Rattle.planner.specs.Posting.{entryTests, postingTests};
-ghost use Rattle.planner.specs.Calls.{gives, complement, planWords, written, judgedOf, orderOutcome, listCall, boundCall, planCall, verdictCall};
+ghost use Rattle.planner.specs.Calls.{gives, complement, planWords, written, judgedOf, orderingRule, orderOutcome, listCall, boundCall, planCall, verdictCall};
 ghost use Rattle.planner.specs.Working.{Plannable, pairAt, held, Sized, orZero};
 use book::Tested;
 use core::Front;
@@ -154,7 +155,7 @@ fn posting_tests(n: usize, posting: &[u32]) -> Tested
 
 // The list of the rows in columns.
 fn plans_of(c: Columns, n: usize, free: u32) -> Front
-    requires { ⌜ Plannable c n free ⌝ }
+    requires { ⌜ Plannable Agreeing c n free ⌝ }
     ensures { λ r. ⌜ Sized r × (held r ≡ plans (jobsOf c) free (countFrom 1 n)) ⌝ }
 {
     let release = c.release;
@@ -165,8 +166,8 @@ fn plans_of(c: Columns, n: usize, free: u32) -> Front
 
 // The order for a raised bound of the rows in columns, with its own pair; refused where the buffer is too short or no order keeps the bound.
 fn order_into(c: Columns, n: usize, free: u32, bound: u32, result: &mut [u32]) -> Ordered
-    requires { ⌜ Plannable c n free ⌝ }
-    ensures { λ r. ⌜ ((rows : List Row) → Apart rows c → n ≡ lib.ListN.length rows → gives r (now (result .exit)) ≡ orderOutcome rows free (lowered bound) (now (result .entry))) ⌝ }
+    requires { ⌜ Plannable Agreeing c n free ⌝ }
+    ensures { λ r. ⌜ ((rows : List Row) → Apart rows c → n ≡ lib.ListN.length rows → gives r (now (result .exit)) ≡ orderOutcome orderingRule rows free (lowered bound) (now (result .entry))) ⌝ }
 {
     if result.len() < n {
         return Ordered::Refused(Tested::NARROW, 0);
@@ -209,7 +210,7 @@ fn judge(front: Front, desk: Desk) -> Judged
 
 // The list: for each plan that no order of the rows beats two words, end and worst lateness in two's complement, by rising end.
 pub fn list(book: &[u32], result: &mut [u32]) -> Listed
-    ensures { λ r. ⌜ gives r (now (result .exit)) ≡ listCall (now (book .entry)) (now (result .entry)) ⌝ }
+    ensures { λ r. ⌜ gives r (now (result .exit)) ≡ listCall orderingRule (now (book .entry)) (now (result .entry)) ⌝ }
 {
     let reading = book::read(book);
     let outcome = reading.outcome;
@@ -228,7 +229,7 @@ pub fn list(book: &[u32], result: &mut [u32]) -> Listed
 
 // The order for a bound on lateness: its row numbers, and its own pair.
 pub fn order_for_bound(book: &[u32], bound: i32, result: &mut [u32]) -> Ordered
-    ensures { λ r. ⌜ gives r (now (result .exit)) ≡ boundCall (now (book .entry)) bound (now (result .entry)) ⌝ }
+    ensures { λ r. ⌜ gives r (now (result .exit)) ≡ boundCall orderingRule (now (book .entry)) bound (now (result .entry)) ⌝ }
 {
     let reading = book::read(book);
     let outcome = reading.outcome;
@@ -247,7 +248,7 @@ pub fn order_for_bound(book: &[u32], bound: i32, result: &mut [u32]) -> Ordered
 
 // The order of a listed plan by its number from 1: the order for the bound equal to its lateness.
 pub fn order_of_plan(book: &[u32], plan: u32, result: &mut [u32]) -> Ordered
-    ensures { λ r. ⌜ gives r (now (result .exit)) ≡ planCall (now (book .entry)) plan (now (result .entry)) ⌝ }
+    ensures { λ r. ⌜ gives r (now (result .exit)) ≡ planCall orderingRule (now (book .entry)) plan (now (result .entry)) ⌝ }
 {
     let reading = book::read(book);
     let outcome = reading.outcome;
@@ -272,7 +273,7 @@ pub fn order_of_plan(book: &[u32], plan: u32, result: &mut [u32]) -> Ordered
 
 // The verdict on a posted order of row numbers: its own pair, and the first listed plan that beats it.
 pub fn verdict(book: &[u32], posting: &[u32]) -> Judged
-    ensures { λ r. ⌜ r ≡ verdictCall (now (book .entry)) (now (posting .entry)) ⌝ }
+    ensures { λ r. ⌜ r ≡ verdictCall orderingRule (now (book .entry)) (now (posting .entry)) ⌝ }
 {
     let reading = book::read(book);
     let outcome = reading.outcome;

@@ -11,7 +11,8 @@ use lib.Signed.{_≤ℤ_}
 use Rattle.theory.specs.Jobs.{Job}
 use Rattle.schedule.specs.Desk.{Pair, OrderOf, pairOf}
 use Rattle.schedule.specs.Plans.{beats, attained, plans}
-use Rattle.schedule.specs.Promise.{Rising, Promise, Promised}
+use Rattle.schedule.specs.Picks.{orderFor}
+use Rattle.schedule.specs.Promise.{Rising, Promise, Promised, SameList}
 use Rattle.schedule.proofs.Signed.{_≼_, leZ→, →leZ, →ltZ}
 use Rattle.schedule.proofs.Orders.{perm-orders, orders-perm}
 use Rattle.schedule.proofs.Front.{above-mem, plans-sound, plans-complete, plans-rising}
@@ -40,7 +41,7 @@ module _ {job : ℕ → Job} {t : ℕ} {left : List ℕ} (a : Plannable job t le
         step ps (r .1) (λ q m. f q (List·Memᴰ·tail m)),
       )
 
-  holds : Promise job t left
+  holds : Promise job t left (orderFor job t left)
   holds = record {
     best = λ y order e. let b = best-for a y order e in (
       whole (b .whole),
@@ -64,8 +65,10 @@ module _ {job : ℕ → Job} {t : ℕ} {left : List ℕ} (a : Plannable job t le
     rising = rises;
     few = (some-plan a, few-plans a);
     attains = λ p m. let u = attained-for a p m in (u .0, u .1, (whole (best-for a (p .late) (u .0) (u .1) .whole), u .2));
-    same-list = same-bounds a;
   }
 
 pub promised : Promised
 promised job t left agreeing some-row = holds (record { agreeing = agreeing; some-row = some-row })
+
+pub same-list : SameList
+same-list job t left agreeing some-row = same-bounds (record { agreeing = agreeing; some-row = some-row })

@@ -22,7 +22,7 @@ use Rattle.schedule.proofs.Numbers.{length-count}
 use Rattle.schedule.proofs.Search.{Halted, ran, FoundOrder, Found, block-is, blocks-one, blocks-two, blocks-none, order-found}
 use Rattle.schedule.proofs.Matches.{Rank, Matches, row-in, match-left, match-all}
 use Rattle.schedule.proofs.RankPicks.{Renumbers, job-of, Picked, first-picked, second-picked, same-run, same-block}
-use Rattle.schedule.proofs.Promise.{promised}
+use Rattle.schedule.proofs.Promise.{same-list}
 
 -- The order for a bound, by whether its run keeps the bound.
 module _ (job : ℕ → Job) (t : ℕ) (left : List ℕ) (y : ℤ) where
@@ -190,5 +190,5 @@ module _ (n : ℕ) (job job′ : ℕ → Job) (row : ℕ → ℕ) (byRank : ByRa
   unfolding listByBounds
   same-plans t a l f g =
       let some-row : 0 < length (countFrom 1 n) = omega (arith, length-count 1 n) in
-      sym (promised job t (countFrom 1 n) a some-row .same-list f) ∙ same-from t 4294967296 (pos 2147483647) ∙
-      promised job′ t (countFrom 1 n) (agreeing a) some-row .same-list g
+      sym (same-list job t (countFrom 1 n) a some-row f) ∙ same-from t 4294967296 (pos 2147483647) ∙
+      same-list job′ t (countFrom 1 n) (agreeing a) some-row g

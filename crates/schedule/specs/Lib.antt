@@ -3,6 +3,7 @@ pub mod Desk
 pub mod Picks
 pub mod Plans
 pub mod Promise
+pub mod Arrival
 pub mod Ranges
 pub mod Offset
 pub mod Columns

@@ -5,7 +5,7 @@ use mathlib.Core.Bool.{not}
 use mathlib.Core.Path.{_≡_}
 use mathlib.Core.List.{List, [], _∷_, List·Memᴰ}
 use mathlib.Core.Logic.{_↔_}
-use mathlib.Core.Option.{none, some}
+use mathlib.Core.Option.{Option, none, some}
 use lib.Dec.{T}
 use lib.ListN.{length}
 use lib.IntN.{ℤ, pos, negsuc}
@@ -30,14 +30,15 @@ abbrev pub Fits32 : (ℕ → Job) → ℕ → List ℕ → Type 0
 Fits32 job t left = (order : List ℕ) → OrderOf left order →
     (negsuc 2147483647 ≤ℤ pairOf job t order .late) × (pairOf job t order .late ≤ℤ pos 2147483647)
 
-module _ (job : ℕ → Job) (t : ℕ) (left : List ℕ) where
+-- `orders` gives the order for each bound, or none.
+module _ (job : ℕ → Job) (t : ℕ) (left : List ℕ) (orders : ℤ → Option (List ℕ)) where
   pub record Promise : Type 0 where
     -- The order for a bound is an order of the rows, keeps the bound, and ends no later than any order that keeps it.
-    pub best : (y : ℤ) (order : List ℕ) → orderFor job t left y ≡ some order →
+    pub best : (y : ℤ) (order : List ℕ) → orders y ≡ some order →
         OrderOf left order × (pairOf job t order .late ≤ℤ y) ×
         ((other : List ℕ) → OrderOf left other → pairOf job t other .late ≤ℤ y → endOf job t order ≤ endOf job t other)
     -- A bound is unkept exactly if no order keeps it.
-    pub unkept : (y : ℤ) → (orderFor job t left y ≡ none) ↔ ((order : List ℕ) → OrderOf left order → ¬ (pairOf job t order .late ≤ℤ y))
+    pub unkept : (y : ℤ) → (orders y ≡ none) ↔ ((order : List ℕ) → OrderOf left order → ¬ (pairOf job t order .late ≤ℤ y))
     -- A pair is listed exactly if some order attains it and no order beats it.
     pub belongs : (p : Pair) → List·Memᴰ p (plans job t left) ↔
         (((order : List ℕ) × Attains job t left order p) × ((other : List ℕ) → OrderOf left other → T (not (beats (pairOf job t other) p))))
@@ -49,13 +50,15 @@ module _ (job : ℕ → Job) (t : ℕ) (left : List ℕ) where
     -- There is a plan, and there are no more plans than rows.
     pub few : (1 ≤ length (plans job t left)) × (length (plans job t left) ≤ length left)
     -- The order for a listed pair's lateness attains that pair.
-    pub attains : (p : Pair) → List·Memᴰ p (plans job t left) → (order : List ℕ) × (orderFor job t left (p .late) ≡ some order) × Attains job t left order p
-    -- Asking for ever smaller bounds gives the list, where every lateness is a signed 32-bit number.
-    pub same-list : Fits32 job t left → listByBounds job t left ≡ plans job t left
+    pub attains : (p : Pair) → List·Memᴰ p (plans job t left) → (order : List ℕ) × (orders (p .late) ≡ some order) × Attains job t left order p
 
 -- The whole of property 3, for rows that agree. (Of no rows at all there is one plan, of the empty order: so at least one row.)
 abbrev pub Promised : Type 0
-Promised = (job : ℕ → Job) (t : ℕ) (left : List ℕ) → Agreeing job left → 0 < length left → Promise job t left
+Promised = (job : ℕ → Job) (t : ℕ) (left : List ℕ) → Agreeing job left → 0 < length left → Promise job t left (orderFor job t left)
+
+-- Asking for ever smaller bounds gives the list, where every lateness is a signed 32-bit number.
+abbrev pub SameList : Type 0
+SameList = (job : ℕ → Job) (t : ℕ) (left : List ℕ) → Agreeing job left → 0 < length left → Fits32 job t left → listByBounds job t left ≡ plans job t left
 
 -- Idle plus all lengths equals end minus the minute at the start.
 abbrev pub IdleSum : Type 0

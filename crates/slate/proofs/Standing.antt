@@ -28,7 +28,7 @@ use Rattle.slate.specs.Printing.{prints, lineAt}
 use Rattle.schedule.proofs.Numbers.{length-count}
 use Rattle.schedule.proofs.Orders.{perm-count}
 use Rattle.planner.specs.declared.Ordered.{Ordered}
-use Rattle.planner.specs.Calls.{Outcome, written, boundCall}
+use Rattle.planner.specs.Calls.{Outcome, written, orderingRule, boundCall}
 use Rattle.planner.proofs.CallLaws.{bound-is, order-some}
 use Rattle.planner.proofs.Promise.{calls-keep-promise}
 use Rattle.slate.specs.Parts.{Shown, Heard}
@@ -111,11 +111,11 @@ module _ (input book : List ℕ) (t : Table) (count : ℕ) (plans : List ℕ) (h
   line-stands numbers n b f =
       let o = there in
       let y = pairIn plans k .late in
-      let held : boundCall book y b .buffer ≡ o .0 =
+      let held : boundCall orderingRule book y b .buffer ≡ o .0 =
       ap (λ (x : Outcome Ordered). x .buffer)
-      (bound-is book (t .free) (tableRows t) (h .read) y b ∙ order-some (tableRows t) (t .free) y b (omega (arith, f, h .rows)) (o .0) (o .1)) ∙
+      (bound-is orderingRule book (t .free) (tableRows t) (h .read) y b ∙ order-some orderingRule (tableRows t) (t .free) y b (omega (arith, f, h .rows)) (o .0) (o .1)) ∙
       written-whole (o .0) b (o .2 ∙ sym f) in
-      let named : map (λ i. row (tableRows t) i .number) (o .0) ≡ map (λ i. getD numbers i 0) (boundCall book y b .buffer) =
+      let named : map (λ i. row (tableRows t) i .number) (o .0) ≡ map (λ i. getD numbers i 0) (boundCall orderingRule book y b .buffer) =
       sym (ap (map (λ i. getD numbers i 0)) held ∙ ap (λ (g : ℕ → ℕ). map g (o .0)) (λ j i. n .1 i j)) in
       ap (lineAt (prints input)) (add-one k) ∙ (line-at ∙
       ap (λ (ns : List ℕ). some (record { end = getD plans (2 * k) 0; late = signed (getD plans (2 * k + 1) 0); numbers = ns }))

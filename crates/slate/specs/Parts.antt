@@ -8,7 +8,7 @@ use lib.ListN.{length, take, getD}
 use Rattle.book.specs.declared.Table.{Table}
 use Rattle.book.specs.Rows.{accepted}
 use Rattle.book.specs.Book.{readBook, tableRows}
-use Rattle.planner.specs.Calls.{plansOf, boundCall}
+use Rattle.planner.specs.Calls.{plansOf, orderingRule, boundCall}
 use Rattle.planner.specs.Lines.{printed}
 use Rattle.planner.specs.Promise.{signed, plansIn}
 use Rattle.slate.specs.Printing.{prints, lineAt}
@@ -35,7 +35,7 @@ pub record Added (r at : ℕ) (before bytes after : List ℕ) : Type 0 where
 -- The line of a plan: its numbers are those of the order that the call for its bound writes, into any buffer of one word for each row.
 abbrev pub Shown : (input book numbers : List ℕ) (rows plan end late : ℕ) → Type 0
 Shown input book numbers rows plan end late = (b : List ℕ) → length b ≡ rows → lineAt (prints input) plan ≡
-    some (record { end = end; late = signed late; numbers = map (λ i. getD numbers i 0) (boundCall book (signed late) b .buffer) })
+    some (record { end = end; late = signed late; numbers = map (λ i. getD numbers i 0) (boundCall orderingRule book (signed late) b .buffer) })
 
 -- The input is a book that is accepted, the table has its rows, and the buffer its plans.
 pub record Heard (input book : List ℕ) (table : Table) (count : ℕ) (plans : List ℕ) : Type 0 where

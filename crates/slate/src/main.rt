@@ -8,7 +8,7 @@ ghost use Prim.Native.Nat.{ℕ, _+_, _*_, _≤_, _<_};
 ghost use lib.ListN.{length, getD};
 ghost use Rattle.schedule.specs.Rows.{row};
 ghost use Rattle.book.specs.Book.{tableRows};
-ghost use Rattle.planner.specs.Calls.{boundCall};
+ghost use Rattle.planner.specs.Calls.{orderingRule, boundCall};
 ghost use Rattle.planner.specs.Lines.{refusal};
 ghost use Rattle.planner.specs.Promise.{signed};
 ghost use Rattle.slate.specs.Input.{wordAt, wordsIn};
@@ -205,7 +205,7 @@ fn print_plan(input: &[u8], plan: usize, end: u32, late: u32, numbers: &[u32])
 fn order_numbers(book: &[u32], late: u32, numbers: &[u32; 257], order: &mut [u32])
     requires { ⌜ length (now numbers) ≡ 257 ⌝ }
     ensures { λ _. ⌜ length (now (order .exit)) ≡ length (now (order .entry)) ⌝ }
-    ensures { λ _. ⌜ now (order .exit) ≡ map (λ i. getD (now (numbers .entry)) i 0) (boundCall (now (book .entry)) (signed late) (now (order .entry)) .buffer) ⌝ }
+    ensures { λ _. ⌜ now (order .exit) ≡ map (λ i. getD (now (numbers .entry)) i 0) (boundCall orderingRule (now (book .entry)) (signed late) (now (order .entry)) .buffer) ⌝ }
 {
     planner::order_for_bound(book, signed_of(late), order);
     name_rows(numbers, order);

@@ -6,7 +6,7 @@ use mir.Syntax.{w32}
 use mir.ValLaws.{toZ-ofZ}
 use mathlib.Core.Path.{ap, _∙_}
 use Rattle.planner.specs.declared.Ordered.{Ordered}
-use Rattle.planner.specs.Calls.{Outcome, boundCall}
+use Rattle.planner.specs.Calls.{Outcome, orderingRule, boundCall}
 use Rattle.planner.specs.Answers.{saidOrder}
 use Rattle.jelvaksna.specs.Boundary.{answerOf}
 use borrow.Author.Needs.{needs}
@@ -27,7 +27,7 @@ returns c =
     let o = c .before .before .before in
     let s = o .before .before .before .before in
     let a = s .args in
-    let q = o .order-for-bound .ensures ∙ ap (λ (y : ℤ). boundCall (now (a .book)) y (now (a .result))) (toZ-ofZ w32 (a .bound) (s .fits .bound)) in
+    let q = o .order-for-bound .ensures ∙ ap (λ (y : ℤ). boundCall orderingRule (now (a .book)) y (now (a .result))) (toZ-ofZ w32 (a .bound) (s .fits .bound)) in
     (c .of-order .ensures ∙ ap (λ (o : Outcome Ordered). answerOf (saidOrder (o .answer))) q, ap (λ (o : Outcome Ordered). o .buffer) q)
 
 pub jelvaksna-order-for-bound-spec : {M : Type 1} → statement M

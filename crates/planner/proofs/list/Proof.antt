@@ -6,6 +6,7 @@ use Prim.Native.Nat.{_≤_}
 use mathlib.Core.Path.{sym}
 use borrow.Author.Needs.{needs}
 use Rattle.book.proofs.Readings.{Given, given, turned-down}
+use Rattle.planner.specs.Calls.{orderingRule}
 use Rattle.planner.proofs.CallLaws.{list-refused}
 use Rattle.planner.proofs.Answered.{list-short, may-plan, few-plans, list-done}
 use Rattle.planner.proofs.list.Statement.{statement}
@@ -29,7 +30,7 @@ returns c =
     let r = c .before .before .before in
     let a = c .before .before .before .before .before .before .args in
     let g = c .before .outcome .given in
-    sym (list-refused (now (a .book)) (g .0 .0) (g .0 .1 .0) (turned-down (now (a .book)) (r .read .result) (g .0 .0) (g .0 .1 .0) (r .read .ensures) (g .1)) (a .result .now))
+    sym (list-refused orderingRule (now (a .book)) (g .0 .0) (g .0 .1 .0) (turned-down (now (a .book)) (r .read .result) (g .0 .0) (g .0 .1 .0) (r .read .ensures) (g .1)) (a .result .now))
 
 enum-told : tie.Need-enum-told
 enum-told c = search needs
@@ -38,13 +39,13 @@ mul-if1 : tie.Need-mul-if1
 mul-if1 c = record { fits = omega (arith, few c) }
 
 returns-2 : tie.Need-returns-2
-returns-2 c = let t = c .before in list-short (now (t .before .before .before .before .before .before .args .book)) _ (accepted t) (t .before .before .before .before .before .before .args .result .now) (c .if1 .taken)
+returns-2 c = let t = c .before in list-short orderingRule (now (t .before .before .before .before .before .before .args .book)) _ (accepted t) (t .before .before .before .before .before .before .args .result .now) (c .if1 .taken)
 
 columns-in-requires : tie.Need-columns-in-requires
 columns-in-requires c κs = few (c .before)
 
 plans-of-requires : tie.Need-plans-of-requires
-plans-of-requires c κs = let t = c .before .before in may-plan (now (t .before .before .before .before .before .before .args .book)) _ (accepted t) (c .columns-in .result) (c .columns-in .ensures)
+plans-of-requires c κs = let t = c .before .before in may-plan orderingRule (now (t .before .before .before .before .before .before .args .book)) _ (accepted t) (c .columns-in .result) (c .columns-in .ensures)
 
 write-plans-requires : tie.Need-write-plans-requires
 write-plans-requires c κs =

@@ -7,7 +7,7 @@ use mathlib.Core.Path.{sym, ap, _∙_}
 use borrow.Author.Needs.{needs}
 use Rattle.book.proofs.Readings.{Given, given, turned-down}
 use Rattle.book.specs.Book.{tableRows}
-use Rattle.planner.specs.Calls.{orderOutcome}
+use Rattle.planner.specs.Calls.{orderingRule, orderOutcome}
 use lib.IntN.{ℤ}
 use Rattle.planner.proofs.CallLaws.{bound-refused}
 use Rattle.planner.proofs.Answered.{may-plan, bound-back, bound-done}
@@ -32,7 +32,7 @@ returns c =
     let r = c .before .before .before in
     let a = c .before .before .before .before .before .before .args in
     let g = c .before .outcome .given in
-    sym (bound-refused (now (a .book)) (g .0 .0) (g .0 .1 .0) (turned-down (now (a .book)) (r .read .result) (g .0 .0) (g .0 .1 .0) (r .read .ensures) (g .1)) (a .bound) (a .result .now))
+    sym (bound-refused orderingRule (now (a .book)) (g .0 .0) (g .0 .1 .0) (turned-down (now (a .book)) (r .read .result) (g .0 .0) (g .0 .1 .0) (r .read .ensures) (g .1)) (a .bound) (a .result .now))
 
 enum-told : tie.Need-enum-told
 enum-told c = search needs
@@ -44,7 +44,7 @@ raise-requires : tie.Need-raise-requires
 raise-requires c κs = search needs
 
 order-into-requires : tie.Need-order-into-requires
-order-into-requires c κs = let t = c .before .before .before in may-plan (now (t .before .before .before .before .before .before .args .book)) _ (accepted t) (c .before .before .columns-in .result) (c .before .before .columns-in .ensures)
+order-into-requires c κs = let t = c .before .before .before in may-plan orderingRule (now (t .before .before .before .before .before .before .args .book)) _ (accepted t) (c .before .before .columns-in .result) (c .before .before .columns-in .ensures)
 
 same-length : tie.Need-same-length
 same-length c = search needs
@@ -55,10 +55,10 @@ returns-2 c =
     let s = t .before .before .before .before .before .before in
     let g = accepted t in
     let table = t .before .before .before .read .result .table in
-    let y = bound-back (now (s .args .book)) table g (s .args .bound) (c .before .before .before .before .raise .result) (s .fits .bound) (c .before .before .before .before .raise .ensures) in
-    bound-done (now (s .args .book)) table g (s .args .bound) (s .args .result .now) _
+    let y = bound-back (s .args .bound) (c .before .before .before .before .raise .result) (s .fits .bound) (c .before .before .before .before .raise .ensures) in
+    bound-done orderingRule (now (s .args .book)) table g (s .args .bound) (s .args .result .now) _
     (c .before .before .order-into .ensures (tableRows table) (c .before .before .before .before .before .columns-in .ensures) (sym (g .size)) ∙
-    ap (λ (z : ℤ). orderOutcome (tableRows table) (table .free) z (s .args .result .now)) y)
+    ap (λ (z : ℤ). orderOutcome orderingRule (tableRows table) (table .free) z (s .args .result .now)) y)
 
 pub order-for-bound-spec : {M : Type 1} → statement M
 order-for-bound-spec =

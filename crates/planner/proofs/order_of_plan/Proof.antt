@@ -7,6 +7,7 @@ use mathlib.Core.Path.{sym}
 use borrow.Author.Needs.{needs}
 use Rattle.book.proofs.Readings.{Given, given, turned-down}
 use Rattle.book.specs.Book.{tableRows}
+use Rattle.planner.specs.Calls.{orderingRule}
 use Rattle.planner.proofs.CallLaws.{plan-refused}
 use Rattle.planner.proofs.Answered.{may-plan, plan-none, plan-past, plan-done}
 use Rattle.planner.proofs.order_of_plan.Statement.{statement}
@@ -30,7 +31,7 @@ returns c =
     let r = c .before .before .before in
     let a = c .before .before .before .before .before .before .args in
     let g = c .before .outcome .given in
-    sym (plan-refused (now (a .book)) (g .0 .0) (g .0 .1 .0) (turned-down (now (a .book)) (r .read .result) (g .0 .0) (g .0 .1 .0) (r .read .ensures) (g .1)) (a .plan) (a .result .now))
+    sym (plan-refused orderingRule (now (a .book)) (g .0 .0) (g .0 .1 .0) (turned-down (now (a .book)) (r .read .result) (g .0 .0) (g .0 .1 .0) (r .read .ensures) (g .1)) (a .plan) (a .result .now))
 
 enum-told : tie.Need-enum-told
 enum-told c = search needs
@@ -39,7 +40,7 @@ columns-in-requires : tie.Need-columns-in-requires
 columns-in-requires c κs = few c
 
 plans-of-requires : tie.Need-plans-of-requires
-plans-of-requires c κs = let t = c .before in may-plan (now (t .before .before .before .before .before .before .args .book)) _ (accepted t) (c .columns-in .result) (c .columns-in .ensures)
+plans-of-requires c κs = let t = c .before in may-plan orderingRule (now (t .before .before .before .before .before .before .args .book)) _ (accepted t) (c .columns-in .result) (c .columns-in .ensures)
 
 returns-2 : tie.Need-returns-2
 returns-2 c =
@@ -63,7 +64,7 @@ array-read-order-into : tie.Need-array-read-order-into
 array-read-order-into c = let p = c .before .before .before .plans-of in omega (arith, p .ensures .0 .few, c .before .if2 .left)
 
 order-into-requires : tie.Need-order-into-requires
-order-into-requires c κs = let t = c .before .before .before .before .before .before in may-plan (now (t .before .before .before .before .before .before .args .book)) _ (accepted t) (c .before .before .before .before .before .columns-in .result) (c .before .before .before .before .before .columns-in .ensures)
+order-into-requires c κs = let t = c .before .before .before .before .before .before in may-plan orderingRule (now (t .before .before .before .before .before .before .args .book)) _ (accepted t) (c .before .before .before .before .before .columns-in .result) (c .before .before .before .before .before .columns-in .ensures)
 
 same-length : tie.Need-same-length
 same-length c = search needs

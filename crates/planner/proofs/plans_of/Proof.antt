@@ -7,7 +7,7 @@ use Rattle.planner.proofs.plans_of.Tie as tie
 list-plans-requires : tie.Need-list-plans-requires
 list-plans-requires c κs =
     let p = c .before .before .before .before .before .before .pre in
-    (p .limits, (p .some, p .few, p .early, p .agree))
+    (p .limits, (p .some, p .few, p .early, p .rule))
 
 returns : tie.Need-returns
 returns c =

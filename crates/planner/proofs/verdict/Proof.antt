@@ -8,6 +8,7 @@ use borrow.Author.Needs.{needs}
 use Rattle.book.proofs.Readings.{Given, given, turned-down}
 use Rattle.book.specs.declared.Tested.the-variants.{Passed}
 use Rattle.planner.specs.Posting.{postingTests}
+use Rattle.planner.specs.Calls.{orderingRule}
 use Rattle.planner.proofs.CallLaws.{verdict-refused}
 use Rattle.planner.proofs.Answered.{may-plan, verdict-stray, posting-length, posting-rows, verdict-done}
 use Rattle.planner.proofs.verdict.Statement.{statement}
@@ -35,7 +36,7 @@ returns c =
     let r = c .before .before .before in
     let a = c .before .before .before .before .before .before .args in
     let g = c .before .outcome .given in
-    sym (verdict-refused (now (a .book)) (g .0 .0) (g .0 .1 .0) (turned-down (now (a .book)) (r .read .result) (g .0 .0) (g .0 .1 .0) (r .read .ensures) (g .1)) (a .posting .now))
+    sym (verdict-refused orderingRule (now (a .book)) (g .0 .0) (g .0 .1 .0) (turned-down (now (a .book)) (r .read .result) (g .0 .0) (g .0 .1 .0) (r .read .ensures) (g .1)) (a .posting .now))
 
 enum-told : tie.Need-enum-told
 enum-told c = search needs
@@ -51,7 +52,7 @@ returns-2 c =
     let t = c .before .before .before .before in
     let s = t .before .before .before .before .before .before in
     let g = c .before .test .given in
-    verdict-stray (now (s .args .book)) _ (accepted t) (s .args .posting .now) (g .0 .0) (g .0 .1 .0) (sym (c .before .before .before .posting-tests .ensures) ∙ g .1)
+    verdict-stray orderingRule (now (s .args .book)) _ (accepted t) (s .args .posting .now) (g .0 .0) (g .0 .1 .0) (sym (c .before .before .before .posting-tests .ensures) ∙ g .1)
 
 enum-told-2 : tie.Need-enum-told-2
 enum-told-2 c = search needs
@@ -60,19 +61,19 @@ columns-in-requires : tie.Need-columns-in-requires
 columns-in-requires c κs = few (c .before .before .before)
 
 plans-of-requires : tie.Need-plans-of-requires
-plans-of-requires c κs = let t = c .before .before .before .before in may-plan (now (t .before .before .before .before .before .before .args .book)) _ (accepted t) (c .columns-in .result) (c .columns-in .ensures)
+plans-of-requires c κs = let t = c .before .before .before .before in may-plan orderingRule (now (t .before .before .before .before .before .before .args .book)) _ (accepted t) (c .columns-in .result) (c .columns-in .ensures)
 
 posted-requires : tie.Need-posted-requires
 posted-requires c κs =
     let t = c .before .before .before .before .before in
     let s = t .before .before .before .before .before .before in
     let g = accepted t in
-    let p = may-plan (now (s .args .book)) _ g (c .before .columns-in .result) (c .before .columns-in .ensures) in (
+    let p = may-plan orderingRule (now (s .args .book)) _ g (c .before .columns-in .result) (c .before .columns-in .ensures) in (
       (p .limits, p .releases, p .lengths, p .dues),
       (
         p .early,
-        omega (arith, posting-length (now (s .args .book)) _ g (s .args .posting .now) (passed (c .before .before)), few t),
-        posting-rows (now (s .args .book)) _ g (s .args .posting .now) (passed (c .before .before)),
+        omega (arith, posting-length orderingRule (now (s .args .book)) _ g (s .args .posting .now) (passed (c .before .before)), few t),
+        posting-rows orderingRule (now (s .args .book)) _ g (s .args .posting .now) (passed (c .before .before)),
       ),
     )
 
@@ -84,8 +85,8 @@ returns-3 c =
     let t = c .before .before .before .before .before .before .before in
     let s = t .before .before .before .before .before .before in
     let p = c .before .before .plans-of in
-    verdict-done (now (s .args .book)) _ (accepted t) (s .args .posting .now) (passed (c .before .before .before .before)) (c .before .before .before .columns-in .result) (c .before .before .before .columns-in .ensures) (p .result) (p .ensures .0) (p .ensures .1)
-    (c .before .posted .result) (c .before .posted .ensures) (c .judge .result) (c .judge .ensures)
+    verdict-done (now (s .args .book)) _ (accepted t) (c .before .before .before .columns-in .result) (c .before .before .before .columns-in .ensures) (p .result) (p .ensures .0) (p .ensures .1)
+    (s .args .posting .now) (passed (c .before .before .before .before)) (c .before .posted .result) (c .before .posted .ensures) (c .judge .result) (c .judge .ensures)
 
 pub verdict-spec : {M : Type 1} → statement M
 verdict-spec =
