@@ -35,7 +35,7 @@
  * A row's spare is due - release - length; where it has a class that is the
  * margin. Two rows disagree if one has the smaller due and also the smaller
  * spare. Rows may stand in any order, as long as no two of them disagree. Rows
- * of one class never do.
+ * of one class never do. The profile below has another rule in place of this.
  *
  * Word places count from 0. Rows, plans and the row numbers in an order or a
  * posting count from 1, in the sequence of the book; they are not the order
@@ -47,6 +47,16 @@
  * list has all of them by rising end, so their lateness falls. It never has
  * more plans than the book has rows.
  *
+ * FIRST COME, FIRST DUE is a profile for books where a transcript released
+ * earlier is never due later. It is chosen by calling it: each call has another
+ * of its name with first_come_ put in. Two rows cross if one has the smaller
+ * release and also the larger due; the profile accepts rows in any order, as
+ * long as no two of them cross, and whether they disagree does not matter. Its
+ * list is one plan, with the rows by release, then due, then row: no order of
+ * the rows ends sooner, and none has a smaller worst lateness. A book may be
+ * accepted by the profile, by the other calls, by both or by neither. Where
+ * both accept it they list the same plan, though its order may differ.
+ *
  * WHAT IS LENT. Pointers are aligned for uint32_t, their lengths count words,
  * and all those words can be read; those of `result` can also be written.
  * `result` overlaps neither the book nor anything else lent to the same call.
@@ -56,8 +66,8 @@
  *
  * THE SEQUENCE OF REFUSALS. The words of the book are tested from the first
  * on, at one word in the sequence CUT, KIND, FULL, RANGE, TWICE, COUNT. Then
- * come TAIL, DISORDER, NOT_POSTING, UNLISTED, NARROW, UNKEPT. The first
- * condition met is the one that is told.
+ * come TAIL, DISORDER (in the profile CROSSED), NOT_POSTING, UNLISTED, NARROW,
+ * UNKEPT. The first condition met is the one that is told.
  */
 #ifndef JELVAKSNA_H
 #define JELVAKSNA_H
@@ -65,7 +75,7 @@
 #include <stddef.h>
 #include <stdint.h>
 
-#define JELVAKSNA_VERSION "1.3"
+#define JELVAKSNA_VERSION "1.4"
 
 /* The refusals, and the place that comes with each. */
 #define JELVAKSNA_CUT 1          /* the book stops where a word is due: its length */
@@ -80,6 +90,7 @@
 #define JELVAKSNA_NOT_POSTING 10 /* not every row once: see jelvaksna_verdict */
 #define JELVAKSNA_UNLISTED 11    /* no row or plan of that number: how many there are */
 #define JELVAKSNA_UNKEPT 12      /* no order keeps the bound: 0 */
+#define JELVAKSNA_CROSSED 13     /* two rows cross: number word of the first row that does with one above */
 
 /* Limits. */
 #define JELVAKSNA_MAX_ROWS 256        /* words that any order fits in */
@@ -97,7 +108,7 @@ extern "C" {
 typedef struct jelvaksna_answer {
     size_t place;     /* place of a refusal, or of a row's number word */
     size_t count;     /* count of plans, or the first plan that beats a posting */
-    uint32_t refusal; /* 0, or the refusal's number, 1 to 12 */
+    uint32_t refusal; /* 0, or the refusal's number, 1 to 13; 8 never in the profile, 13 only there */
     uint32_t end;     /* end of the order or the posting */
     int32_t late;     /* its worst lateness */
 } jelvaksna_answer;
@@ -112,8 +123,9 @@ jelvaksna_answer jelvaksna_list(const uint32_t *book, size_t book_len,
 
 /* The order for a lateness bound: an order of all rows with no row later than
  * the bound, which may be negative; it ends no later than any order that keeps
- * the bound. For the lateness of a listed plan it is that plan's order. `result` has one word for each row or more and takes the
- * row numbers. Answers `end` and `late`, the order's own.
+ * the bound. For the lateness of a listed plan it is that plan's order.
+ * `result` has one word for each row or more and takes the row numbers. Answers
+ * `end` and `late`, the order's own.
  * Refused: 1 to 8, NARROW, UNKEPT. */
 jelvaksna_answer jelvaksna_order_for_bound(const uint32_t *book, size_t book_len,
                                            int32_t bound,
@@ -141,6 +153,32 @@ jelvaksna_answer jelvaksna_verdict(const uint32_t *book, size_t book_len,
  * Refused: 1 to 8, UNLISTED with the count of rows. */
 jelvaksna_answer jelvaksna_row_place(const uint32_t *book, size_t book_len,
                                      uint32_t row);
+
+/* The calls of the profile. Each does what the call without first_come_ in its
+ * name does, with the same buffers, answer and refusals, but CROSSED in the
+ * place of DISORDER. What follows from there being one plan stands at each.
+ *
+ * The list: `count` is 1. `result` has two words for each row all the same. */
+jelvaksna_answer jelvaksna_first_come_list(const uint32_t *book, size_t book_len,
+                                           uint32_t *result, size_t result_len);
+
+/* The order for a lateness bound: that of the one plan, if it keeps the bound. */
+jelvaksna_answer jelvaksna_first_come_order_for_bound(const uint32_t *book, size_t book_len,
+                                                      int32_t bound,
+                                                      uint32_t *result, size_t result_len);
+
+/* The order of a listed plan: of plan 1. Any other is UNLISTED with place 1. */
+jelvaksna_answer jelvaksna_first_come_order_of_plan(const uint32_t *book, size_t book_len,
+                                                    uint32_t plan,
+                                                    uint32_t *result, size_t result_len);
+
+/* The verdict on a posting: `count` is 1 if the one plan beats it, otherwise 0. */
+jelvaksna_answer jelvaksna_first_come_verdict(const uint32_t *book, size_t book_len,
+                                              const uint32_t *posting, size_t posting_len);
+
+/* Where a row stands. */
+jelvaksna_answer jelvaksna_first_come_row_place(const uint32_t *book, size_t book_len,
+                                                uint32_t row);
 
 #ifdef __cplusplus
 }

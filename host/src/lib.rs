@@ -1,7 +1,8 @@
 //! The planner's calls for Rust, and what they are tested with.
 //!
 //! - [`linked`]: the declarations of the archive and a safe wrapper over them (feature `archive`).
-//! - [`model`]: a second implementation of document 01 with requests L1 to L3, from these alone.
+//! - [`model`]: a second implementation of document 01 with requests L1 to L3 and the profile "first
+//!   come, first due", from these alone.
 //! - [`books`]: a seeded maker of books, sound and damaged.
 
 pub mod books;
@@ -10,7 +11,7 @@ pub mod linked;
 pub mod model;
 
 /// The version of the boundary, as in `include/jelvaksna.h`.
-pub const VERSION: &str = "1.3";
+pub const VERSION: &str = "1.4";
 
 /// The numbers of the refusals.
 pub mod refusal {
@@ -26,6 +27,16 @@ pub mod refusal {
     pub const NOT_POSTING: u32 = 10;
     pub const UNLISTED: u32 = 11;
     pub const UNKEPT: u32 = 12;
+    pub const CROSSED: u32 = 13;
+}
+
+/// Which books are accepted, and which plans are listed of them.
+#[derive(Clone, Copy, Debug, PartialEq, Eq)]
+pub enum Profile {
+    /// No two rows disagree; every plan.
+    Standard,
+    /// First come, first due: no two rows cross; one plan.
+    FirstCome,
 }
 
 /// Why a call is turned down, and where.

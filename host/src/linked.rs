@@ -53,54 +53,37 @@ pub mod raw {
             posting_len: usize,
         ) -> Answer;
         pub fn jelvaksna_row_place(book: *const u32, book_len: usize, row: u32) -> Answer;
-    }
-}
-
-/// The calls on slices, with the answer as it comes.
-pub mod plain {
-    use super::{raw, Answer};
-
-    pub fn list(book: &[u32], result: &mut [u32]) -> Answer {
-        // SAFETY: both slices are live and aligned for the call, and `result` is lent alone.
-        unsafe { raw::jelvaksna_list(book.as_ptr(), book.len(), result.as_mut_ptr(), result.len()) }
-    }
-
-    pub fn order_for_bound(book: &[u32], bound: i32, result: &mut [u32]) -> Answer {
-        // SAFETY: as for `list`.
-        unsafe {
-            raw::jelvaksna_order_for_bound(
-                book.as_ptr(),
-                book.len(),
-                bound,
-                result.as_mut_ptr(),
-                result.len(),
-            )
-        }
-    }
-
-    pub fn order_of_plan(book: &[u32], plan: u32, result: &mut [u32]) -> Answer {
-        // SAFETY: as for `list`.
-        unsafe {
-            raw::jelvaksna_order_of_plan(
-                book.as_ptr(),
-                book.len(),
-                plan,
-                result.as_mut_ptr(),
-                result.len(),
-            )
-        }
-    }
-
-    pub fn verdict(book: &[u32], posting: &[u32]) -> Answer {
-        // SAFETY: both slices are live and aligned for the call; neither is written.
-        unsafe {
-            raw::jelvaksna_verdict(book.as_ptr(), book.len(), posting.as_ptr(), posting.len())
-        }
-    }
-
-    pub fn row_place(book: &[u32], row: u32) -> Answer {
-        // SAFETY: the slice is live and aligned for the call.
-        unsafe { raw::jelvaksna_row_place(book.as_ptr(), book.len(), row) }
+        pub fn jelvaksna_first_come_list(
+            book: *const u32,
+            book_len: usize,
+            result: *mut u32,
+            result_len: usize,
+        ) -> Answer;
+        pub fn jelvaksna_first_come_order_for_bound(
+            book: *const u32,
+            book_len: usize,
+            bound: i32,
+            result: *mut u32,
+            result_len: usize,
+        ) -> Answer;
+        pub fn jelvaksna_first_come_order_of_plan(
+            book: *const u32,
+            book_len: usize,
+            plan: u32,
+            result: *mut u32,
+            result_len: usize,
+        ) -> Answer;
+        pub fn jelvaksna_first_come_verdict(
+            book: *const u32,
+            book_len: usize,
+            posting: *const u32,
+            posting_len: usize,
+        ) -> Answer;
+        pub fn jelvaksna_first_come_row_place(
+            book: *const u32,
+            book_len: usize,
+            row: u32,
+        ) -> Answer;
     }
 }
 
@@ -121,43 +104,120 @@ fn pair(answer: Answer) -> Pair {
     }
 }
 
-/// Writes the listed plans, two words each, and gives how many there are.
-pub fn list(book: &[u32], result: &mut [u32]) -> Result<usize, Refusal> {
-    told(plain::list(book, result), |a| a.count)
+/// The safe calls over five of the exported functions.
+macro_rules! calls {
+    ($list:ident, $order_for_bound:ident, $order_of_plan:ident, $verdict:ident, $row_place:ident) => {
+        /// The calls on slices, with the answer as it comes.
+        pub mod plain {
+            use $crate::linked::{raw, Answer};
+
+            pub fn list(book: &[u32], result: &mut [u32]) -> Answer {
+                // SAFETY: both slices are live and aligned for the call, and `result` is lent alone.
+                unsafe { raw::$list(book.as_ptr(), book.len(), result.as_mut_ptr(), result.len()) }
+            }
+
+            pub fn order_for_bound(book: &[u32], bound: i32, result: &mut [u32]) -> Answer {
+                // SAFETY: as for `list`.
+                unsafe {
+                    raw::$order_for_bound(
+                        book.as_ptr(),
+                        book.len(),
+                        bound,
+                        result.as_mut_ptr(),
+                        result.len(),
+                    )
+                }
+            }
+
+            pub fn order_of_plan(book: &[u32], plan: u32, result: &mut [u32]) -> Answer {
+                // SAFETY: as for `list`.
+                unsafe {
+                    raw::$order_of_plan(
+                        book.as_ptr(),
+                        book.len(),
+                        plan,
+                        result.as_mut_ptr(),
+                        result.len(),
+                    )
+                }
+            }
+
+            pub fn verdict(book: &[u32], posting: &[u32]) -> Answer {
+                // SAFETY: both slices are live and aligned for the call; neither is written.
+                unsafe { raw::$verdict(book.as_ptr(), book.len(), posting.as_ptr(), posting.len()) }
+            }
+
+            pub fn row_place(book: &[u32], row: u32) -> Answer {
+                // SAFETY: the slice is live and aligned for the call.
+                unsafe { raw::$row_place(book.as_ptr(), book.len(), row) }
+            }
+        }
+
+        /// Writes the listed plans, two words each, and gives how many there are.
+        pub fn list(book: &[u32], result: &mut [u32]) -> Result<usize, Refusal> {
+            told(plain::list(book, result), |a| a.count)
+        }
+
+        /// Writes the order for a bound, one row number a word, and gives its pair.
+        pub fn order_for_bound(
+            book: &[u32],
+            bound: i32,
+            result: &mut [u32],
+        ) -> Result<Pair, Refusal> {
+            told(plain::order_for_bound(book, bound, result), pair)
+        }
+
+        /// Writes the order of a listed plan, counted from 1, and gives its pair.
+        pub fn order_of_plan(book: &[u32], plan: u32, result: &mut [u32]) -> Result<Pair, Refusal> {
+            told(plain::order_of_plan(book, plan, result), pair)
+        }
+
+        /// The pair of a posted order, and the first listed plan that beats it.
+        pub fn verdict(book: &[u32], posting: &[u32]) -> Result<(Pair, Option<usize>), Refusal> {
+            told(plain::verdict(book, posting), |a| {
+                (pair(a), (a.count != 0).then_some(a.count))
+            })
+        }
+
+        /// The four words of a row, counted from 1, out of the book that was lent.
+        pub fn row_words(book: &[u32], row: u32) -> Result<&[u32], Refusal> {
+            told(plain::row_place(book, row), |a| a.place).map(|place| &book[place..place + 4])
+        }
+
+        /// The listed plans as pairs.
+        pub fn plans(book: &[u32]) -> Result<Vec<Pair>, Refusal> {
+            // Two words for each row: a book's rows take four words each.
+            let mut result = vec![0; book.len() / 2];
+            let count = list(book, &mut result)?;
+            Ok(result[..2 * count]
+                .chunks_exact(2)
+                .map(|p| Pair {
+                    end: p[0],
+                    late: p[1] as i32,
+                })
+                .collect())
+        }
+    };
 }
 
-/// Writes the order for a bound, one row number a word, and gives its pair.
-pub fn order_for_bound(book: &[u32], bound: i32, result: &mut [u32]) -> Result<Pair, Refusal> {
-    told(plain::order_for_bound(book, bound, result), pair)
-}
+calls!(
+    jelvaksna_list,
+    jelvaksna_order_for_bound,
+    jelvaksna_order_of_plan,
+    jelvaksna_verdict,
+    jelvaksna_row_place
+);
 
-/// Writes the order of a listed plan, counted from 1, and gives its pair.
-pub fn order_of_plan(book: &[u32], plan: u32, result: &mut [u32]) -> Result<Pair, Refusal> {
-    told(plain::order_of_plan(book, plan, result), pair)
-}
+/// The calls of the profile "first come, first due".
+pub mod first_come {
+    use super::{pair, told};
+    use crate::{Pair, Refusal};
 
-/// The pair of a posted order, and the first listed plan that beats it.
-pub fn verdict(book: &[u32], posting: &[u32]) -> Result<(Pair, Option<usize>), Refusal> {
-    told(plain::verdict(book, posting), |a| {
-        (pair(a), (a.count != 0).then_some(a.count))
-    })
-}
-
-/// The four words of a row, counted from 1, out of the book that was lent.
-pub fn row_words(book: &[u32], row: u32) -> Result<&[u32], Refusal> {
-    told(plain::row_place(book, row), |a| a.place).map(|place| &book[place..place + 4])
-}
-
-/// The listed plans as pairs.
-pub fn plans(book: &[u32]) -> Result<Vec<Pair>, Refusal> {
-    // Two words for each row: a book's rows take four words each.
-    let mut result = vec![0; book.len() / 2];
-    let count = list(book, &mut result)?;
-    Ok(result[..2 * count]
-        .chunks_exact(2)
-        .map(|p| Pair {
-            end: p[0],
-            late: p[1] as i32,
-        })
-        .collect())
+    calls!(
+        jelvaksna_first_come_list,
+        jelvaksna_first_come_order_for_bound,
+        jelvaksna_first_come_order_of_plan,
+        jelvaksna_first_come_verdict,
+        jelvaksna_first_come_row_place
+    );
 }

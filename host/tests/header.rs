@@ -93,8 +93,20 @@ fn prototypes() {
     let declared = declared.split_once("extern \"C\" {").unwrap().1;
     let declared = declared.split_once('}').unwrap().0;
     let header = header_functions();
-    assert_eq!(header.len(), 5);
+    assert_eq!(header.len(), 10);
     assert_eq!(header, of_source(declared, "pub fn "));
+}
+
+/// For every call there is one of the profile, with the same parameters.
+#[test]
+fn profile() {
+    let (of_profile, calls): (Vec<_>, Vec<_>) = header_functions()
+        .into_iter()
+        .partition(|f| f.0.starts_with("jelvaksna_first_come_"));
+    let renamed = of_profile
+        .into_iter()
+        .map(|f| (f.0.replace("_first_come_", "_"), f.1, f.2));
+    assert_eq!(renamed.collect::<Vec<_>>(), calls);
 }
 
 #[test]
@@ -157,11 +169,13 @@ fn constants() {
         ("NOT_POSTING", refusal::NOT_POSTING),
         ("UNLISTED", refusal::UNLISTED),
         ("UNKEPT", refusal::UNKEPT),
+        ("CROSSED", refusal::CROSSED),
     ];
     for (i, (name, number)) in numbers.into_iter().enumerate() {
         assert_eq!(number, i as u32 + 1);
         assert_eq!(value(name), number.to_string(), "{name}");
     }
+    assert!(header.contains(&format!("number, 1 to {};", numbers.len())));
     let rows = jelvaksna::model::MAX_ROWS;
     assert_eq!(value("MAX_ROWS"), rows.to_string());
     assert_eq!(value("MAX_LIST_WORDS"), (2 * rows).to_string());
