@@ -1,12 +1,12 @@
 //! A second opinion: document 01 with the classes of request L1, the rows as they arrive of
-//! request L2 and the nearest minute of request L3 as a plain program, written from these papers
-//! and from nothing else.
+//! request L2, the nearest minute of request L3 and the profile "first come, first due" as a plain
+//! program, written from these papers and from nothing else.
 //!
 //! It keeps their sequence of tests and their words (desk, picks, run, blocks), calculates in
 //! 64 bits, and looks for nothing faster than plain scans.
 
 use crate::refusal::*;
-use crate::{Pair, Refusal};
+use crate::{Pair, Profile, Refusal};
 use std::cell::OnceCell;
 use std::fmt::Write;
 
@@ -52,11 +52,18 @@ impl Row {
         let less = |a: &Row, b: &Row| a.due < b.due && a.spare() < b.spare();
         less(self, other) || less(other, self)
     }
+
+    /// One of the two has the smaller release and also the larger due.
+    fn crosses(&self, other: &Row) -> bool {
+        let around = |a: &Row, b: &Row| a.release < b.release && a.due > b.due;
+        around(self, other) || around(other, self)
+    }
 }
 
 /// An accepted book: the desk's free minute and the table.
 #[derive(Clone, Debug)]
 pub struct Day {
+    profile: Profile,
     pub free: i64,
     pub rows: Vec<Row>,
     listed: OnceCell<Vec<Pair>>,
@@ -74,7 +81,7 @@ fn value(word: u32) -> u32 {
     word & 0x1fff_ffff
 }
 
-// ---- Reading: refusals 1 to 8 ----
+// ---- Reading: refusals 1 to 8 and 13 ----
 
 /// The value of the word at `place`, where a word of this kind and range is due.
 fn due_word(book: &[u32], place: usize, due: u32, from: u32, to: u32) -> Result<i64, Refusal> {
@@ -91,8 +98,8 @@ fn due_word(book: &[u32], place: usize, due: u32, from: u32, to: u32) -> Result<
 }
 
 impl Day {
-    /// Reads a book, or says which of the conditions 1 to 8 turns it down.
-    pub fn read(book: &[u32]) -> Result<Day, Refusal> {
+    /// The desk's free minute and the rows, or which of the conditions 1 to 7 turns the book down.
+    fn table(book: &[u32]) -> Result<(i64, Vec<Row>), Refusal> {
         let free = due_word(book, 0, KIND_FREE, 0, 10_000_000)?;
         let pace = due_word(book, 1, KIND_PACE, 4, 120)?;
         let mut rows: Vec<Row> = Vec::new();
@@ -142,12 +149,28 @@ impl Day {
         if place + 1 < book.len() {
             return refuse(TAIL, place + 1);
         }
+        Ok((free, rows))
+    }
+
+    /// Reads a book, or says which of the conditions 1 to 8 turns it down.
+    pub fn read(book: &[u32]) -> Result<Day, Refusal> {
+        Day::read_as(Profile::Standard, book)
+    }
+
+    /// Reads a book by the rule of a profile.
+    pub fn read_as(profile: Profile, book: &[u32]) -> Result<Day, Refusal> {
+        let (free, rows) = Day::table(book)?;
+        let (number, at_odds): (u32, fn(&Row, &Row) -> bool) = match profile {
+            Profile::Standard => (DISORDER, Row::disagrees),
+            Profile::FirstCome => (CROSSED, Row::crosses),
+        };
         for (i, row) in rows.iter().enumerate() {
-            if rows[..i].iter().any(|above| row.disagrees(above)) {
-                return refuse(DISORDER, place_of_row(i + 1));
+            if rows[..i].iter().any(|above| at_odds(row, above)) {
+                return refuse(number, place_of_row(i + 1));
             }
         }
         Ok(Day {
+            profile,
             free,
             rows,
             listed: OnceCell::new(),
@@ -159,9 +182,13 @@ impl Day {
         self.rows.iter().any(|row| row.class.is_some())
     }
 
-    /// Whether the rows stand by rising due, and by rising release plus length at one due.
+    /// Whether the rows stand by rising due, and by rising release plus length at one due; in the
+    /// profile by rising release, and by rising due at one release.
     pub fn is_sorted(&self) -> bool {
-        self.rows.is_sorted_by_key(|row| (row.due, row.reach()))
+        self.rows.is_sorted_by_key(|row| match self.profile {
+            Profile::Standard => (row.due, row.reach()),
+            Profile::FirstCome => (row.release, row.due),
+        })
     }
 }
 
@@ -280,7 +307,24 @@ impl<'d> Desk<'d> {
 
 impl Day {
     fn desk_for_bound(&self, bound: i32) -> Option<Desk<'_>> {
-        let bound = bound as i64;
+        match self.profile {
+            Profile::Standard => self.desk_by_blocks(bound.into()),
+            Profile::FirstCome => Some(self.desk_first_come()).filter(|d| d.pair().late <= bound),
+        }
+    }
+
+    /// The one plan of the profile: by release, then due, then row.
+    fn desk_first_come(&self) -> Desk<'_> {
+        let mut desk = Desk::new(self);
+        let mut order = desk.left.clone();
+        order.sort_by_key(|&row| (self.rows[row].release, self.rows[row].due, row));
+        for row in order {
+            desk.take(row);
+        }
+        desk
+    }
+
+    fn desk_by_blocks(&self, bound: i64) -> Option<Desk<'_>> {
         let mut desk = Desk::new(self);
         if !desk.run(bound) {
             return None;
