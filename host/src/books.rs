@@ -556,6 +556,14 @@ pub fn plans_among(rows: usize, plans: usize) -> Draft {
     day
 }
 
+fn typical_pages(rng: &mut Rng) -> i64 {
+    match rng.below(10) {
+        0 => rng.range(30, 120),
+        1..=3 => rng.range(10, 30),
+        _ => rng.range(1, 10),
+    }
+}
+
 /// A day as a bureau may have it: steady work of mixed sizes, some idle minutes, dues some hours
 /// after the work could be done, and now and then a shorter promise.
 pub fn typical_day(rng: &mut Rng, rows: usize) -> Draft {
@@ -563,12 +571,7 @@ pub fn typical_day(rng: &mut Rng, rows: usize) -> Draft {
     let mut arrivals = Vec::new();
     let mut minute = 480;
     for _ in 0..rows {
-        let pages = match rng.below(10) {
-            0 => rng.range(30, 120),
-            1..=3 => rng.range(10, 30),
-            _ => rng.range(1, 10),
-        };
-        arrivals.push((minute, pages));
+        arrivals.push((minute, typical_pages(rng)));
         // A little more than the mean length of a row between two of them.
         minute += rng.range(0, 62 * 60 / pace);
     }
@@ -582,6 +585,181 @@ pub fn typical_day(rng: &mut Rng, rows: usize) -> Draft {
     }
     day.number(rng);
     day
+}
+
+// ---- Books of the profile ----
+//
+// Rows cross if one has the smaller release and also the larger due. By release, and by due at one
+// release, the rows of a book without crossing have rising dues, and the makers add them so.
+
+/// A day of so many rows of which no two cross, of a shape chosen at random.
+pub fn first_come(rng: &mut Rng, rows: usize) -> Draft {
+    let day = match rng.below(8) {
+        0 => latest(rng, rows),
+        _ => rising(rng, rows),
+    };
+    day.arriving(rng)
+}
+
+/// A day that is refused for crossing alone: two rows of it cross, and in one day of two (from four
+/// rows on) two others do. Unsorted, they may stand far apart.
+pub fn crossing(rng: &mut Rng, rows: usize) -> Draft {
+    let mut day = rising(rng, rows);
+    let half = rows / 2;
+    if half > 1 && rng.one_in(2) {
+        day.cross(rng, 0..half);
+        day.cross(rng, half..rows);
+    } else {
+        day.cross(rng, 0..rows);
+    }
+    day.arriving(rng)
+}
+
+/// A sorted day with room for later releases and dues.
+fn rising(rng: &mut Rng, rows: usize) -> Draft {
+    match rng.below(8) {
+        0 => steady_day(rng, rows),
+        1 => of_both_rules(rng, rows),
+        2 => one_class(rng, rows),
+        _ => steps(rng, rows),
+    }
+}
+
+/// Releases and dues that rise by steps of their own, many of them 0; equal rows; rows with a class
+/// wherever its due is no smaller than the one above.
+fn steps(rng: &mut Rng, rows: usize) -> Draft {
+    let pace = rng.pick(&[4, 7, 30, 40, 60, 60, 61, 120]);
+    let most_pages = rng.pick(&[1, 2, 5, 12, 40, 200]);
+    let (releases, dues) = (rng.pick(&STEPS), rng.pick(&STEPS));
+    let classes_in_100 = rng.pick(&[0, 20, 60]);
+    let (mut release, mut pages) = (rng.pick(&[0, 0, 3, 100, 1_000_000]), 1);
+    let mut due = (release + rng.pick(&[-30, 0, 1, 60, 600])).max(0);
+    let mut day = Draft::empty((release + rng.range(-30, 200)).max(0), pace);
+    while day.rows.len() < rows {
+        let again = !day.rows.is_empty() && rng.one_in(8);
+        if !again {
+            release += step(rng, releases);
+            due += step(rng, dues);
+            pages = rng.range(1, most_pages);
+        }
+        day.push(release, pages, due);
+        if rng.range(1, 100) <= classes_in_100 {
+            let class = rng.below(MARGINS.len()) as u32;
+            due = day.class_last(class).unwrap_or(due);
+        }
+    }
+    day.number(rng);
+    day
+}
+
+const STEPS: [i64; 6] = [0, 1, 3, 12, 60, 1_000];
+
+/// As often 0 as not, otherwise up to `most`, now and then ten times that.
+fn step(rng: &mut Rng, most: i64) -> i64 {
+    match rng.below(20) {
+        0..=9 => 0,
+        10 => 10 * most,
+        _ => rng.range(0, most),
+    }
+}
+
+/// Rows of one class, each released late enough to be due no sooner than the one above.
+fn one_class(rng: &mut Rng, rows: usize) -> Draft {
+    let pace = rng.pick(&[30, 40, 60, 120]);
+    let (most_pages, releases) = (rng.pick(&[1, 5, 40]), rng.pick(&STEPS));
+    let mut day = Draft::empty(rng.range(0, 100), pace);
+    let (mut release, mut reach) = (rng.range(0, 100), 0);
+    while day.rows.len() < rows {
+        let pages = rng.range(1, most_pages);
+        let least = reach - length(pages, pace);
+        release = (release + step(rng, releases)).max(least);
+        reach = release + length(pages, pace);
+        day.push(release, pages, 0);
+    }
+    day.number(rng);
+    day.of_class(rng.below(MARGINS.len()) as u32)
+}
+
+/// A sorted day of which no two rows cross and no two disagree either.
+pub fn of_both_rules(rng: &mut Rng, rows: usize) -> Draft {
+    let pace = rng.pick(&[30, 40, 60, 120]);
+    let (most_pages, releases) = (rng.pick(&[1, 5, 40]), rng.pick(&STEPS));
+    let mut day = Draft::empty(rng.range(0, 100), pace);
+    let release = rng.range(0, 100);
+    day.push(release, 1, release + rng.range(0, 600));
+    while day.rows.len() < rows {
+        let release = day.rows.last().unwrap().release + step(rng, releases);
+        let pages = rng.range(1, most_pages);
+        day.add(release, pages, rng.pick(&[0, 50, 100, 100]));
+    }
+    day.number(rng);
+    day
+}
+
+/// A sorted day up to the latest release and the latest due, with long rows and a late desk.
+fn latest(rng: &mut Rng, rows: usize) -> Draft {
+    let free = rng.pick(&[0, LAST_RELEASE - 1, LAST_RELEASE]);
+    let mut day = Draft::empty(free, rng.pick(&[4, 4, 5, 120]));
+    let before = rng.pick(&[0, 1, 50]);
+    let (mut release, mut due) = match rng.below(3) {
+        0 => (0, 0),
+        1 => (LAST_RELEASE - before, 0),
+        _ => (LAST_RELEASE - before, LAST_DUE - before),
+    };
+    while day.rows.len() < rows {
+        let by = rng.pick(&[0, 0, 1, LAST_RELEASE / 2]);
+        release = (release + by).min(LAST_RELEASE);
+        due = (due + rng.pick(&[0, 1, by])).min(LAST_DUE);
+        day.push(release, rng.pick(&[1, 2, 1_999, 2_000]), due);
+    }
+    day.number(rng);
+    day
+}
+
+/// A day as a bureau of the profile may have it: steady work of mixed sizes, by release, promised
+/// within some hours and never sooner than what came before.
+pub fn steady_day(rng: &mut Rng, rows: usize) -> Draft {
+    let pace = rng.range(20, 40);
+    let (mut minute, mut due) = (480, 0);
+    let mut day = Draft::empty(minute, pace);
+    for _ in 0..rows {
+        due = due.max(minute + rng.pick(&[240, 480, 480, 600]));
+        day.push(minute, typical_pages(rng), due);
+        minute += rng.range(0, 62 * 60 / pace);
+    }
+    day.number(rng);
+    day
+}
+
+impl Draft {
+    /// Gives the last row a class, if it is then due no sooner than before: when.
+    fn class_last(&mut self, class: u32) -> Option<i64> {
+        let row = self.rows.last()?;
+        let due = self.reach(row) + MARGINS[class as usize];
+        if due < row.due {
+            return None;
+        }
+        let row = self.rows.last_mut()?;
+        (row.due, row.class) = (due, Some(class));
+        Some(due)
+    }
+
+    /// Makes two rows of this part of a sorted day cross each other and no other row.
+    fn cross(&mut self, rng: &mut Rng, part: Range<usize>) {
+        let place = part.start + rng.below(part.len() - 1);
+        let most = rng.pick(&[1, 1, 2, 60]);
+        // The rows below are released and due so much later.
+        for row in &mut self.rows[place + 1..] {
+            row.put_off(most);
+        }
+        let one = self.rows[place];
+        let other = &mut self.rows[place + 1];
+        other.release = one.release + rng.range(1, most);
+        (other.due, other.class) = (one.due, None);
+        let one = &mut self.rows[place];
+        one.due += rng.range(1, most);
+        one.class = None;
+    }
 }
 
 // ---- Damage ----

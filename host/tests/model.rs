@@ -2,10 +2,14 @@
 //! request L2 and the nearest minute of request L3, against trying every order, and the book maker
 //! against what it promises. Needs no archive.
 
+#[path = "common/kit.rs"]
+mod kit;
+
 use jelvaksna::books::{self, Draft, DraftRow, Rng};
 use jelvaksna::model::{self, Day, Row};
 use jelvaksna::{word, Pair, Refusal};
-use std::collections::{BTreeMap, BTreeSet};
+use kit::{sequences, Counts};
+use std::collections::BTreeSet;
 
 fn m1() -> Draft {
     Draft::of(0, 60, &[(901, 1, 1, 5), (902, 0, 10, 12)])
@@ -253,21 +257,6 @@ fn slate_bytes() {
     for more in [4, 5, 7, 8, 4001] {
         assert_eq!(model::slate(&longer(more)), "refused 7 at 1027\n");
     }
-}
-
-/// Every sequence of these.
-fn sequences<T: Copy>(items: &[T]) -> Vec<Vec<T>> {
-    if items.is_empty() {
-        return vec![Vec::new()];
-    }
-    let mut all = Vec::new();
-    for i in 0..items.len() {
-        let others = [&items[..i], &items[i + 1..]].concat();
-        for rest in sequences(&others) {
-            all.push([&[items[i]], &rest[..]].concat());
-        }
-    }
-    all
 }
 
 #[test]
@@ -604,27 +593,6 @@ fn every_plan_of_the_days_with_many() {
         if rows <= 8 {
             assert_eq!(sorted.list(), sorted.list_by_definition());
         }
-    }
-}
-
-/// How often what came up.
-#[derive(Default)]
-struct Counts(BTreeMap<String, usize>);
-
-impl Counts {
-    fn add(&mut self, what: impl Into<String>) {
-        *self.0.entry(what.into()).or_default() += 1;
-    }
-
-    fn add_if(&mut self, so: bool, what: &str) {
-        if so {
-            self.add(what);
-        }
-    }
-
-    fn at_least(&self, least: usize, what: impl AsRef<str>) {
-        let have = self.0.get(what.as_ref()).copied().unwrap_or(0);
-        assert!(have >= least, "{}: {have}", what.as_ref());
     }
 }
 
