@@ -8,7 +8,7 @@ mod common;
 use common::{calls, compare, each_call, Call, Case, Effort};
 use jelvaksna::books::{self, Draft, Rng};
 use jelvaksna::model::{Day, MAX_ROWS};
-use jelvaksna::{linked, word, Pair, Refusal};
+use jelvaksna::{linked, word, Pair, Profile, Refusal};
 
 fn books(
     test: &'static str,
@@ -16,7 +16,7 @@ fn books(
     effort: Effort,
     make: impl FnMut(&mut Rng, u64) -> Vec<u32>,
 ) {
-    each_call(test, count, effort, make, compare);
+    each_call(Profile::Standard, test, count, effort, make, compare);
 }
 
 /// All the calls that suit one book.

@@ -6,9 +6,9 @@ pub mod fault;
 pub mod fence;
 
 use jelvaksna::books::{self, Rng};
-use jelvaksna::linked::{plain, Answer};
+use jelvaksna::linked::{first_come::plain as first_come, plain as standard, Answer};
 use jelvaksna::model::Day;
-use jelvaksna::{Pair, Refusal};
+use jelvaksna::{Pair, Profile, Refusal};
 
 /// One call on a book that is lent beside it. `len` is the length of the result buffer.
 #[derive(Clone, Debug)]
@@ -31,13 +31,27 @@ impl Call {
     }
 
     /// The archive's answer. `posting` is the call's posting, where it is lent.
-    fn of_archive(&self, book: &[u32], posting: &[u32], result: &mut [u32]) -> Answer {
-        match *self {
-            Call::List { .. } => plain::list(book, result),
-            Call::OrderForBound { bound, .. } => plain::order_for_bound(book, bound, result),
-            Call::OrderOfPlan { plan, .. } => plain::order_of_plan(book, plan, result),
-            Call::Verdict { .. } => plain::verdict(book, posting),
-            Call::RowPlace { row } => plain::row_place(book, row),
+    fn of_archive(
+        &self,
+        profile: Profile,
+        book: &[u32],
+        posting: &[u32],
+        result: &mut [u32],
+    ) -> Answer {
+        macro_rules! answer {
+            ($of:ident) => {
+                match *self {
+                    Call::List { .. } => $of::list(book, result),
+                    Call::OrderForBound { bound, .. } => $of::order_for_bound(book, bound, result),
+                    Call::OrderOfPlan { plan, .. } => $of::order_of_plan(book, plan, result),
+                    Call::Verdict { .. } => $of::verdict(book, posting),
+                    Call::RowPlace { row } => $of::row_place(book, row),
+                }
+            };
+        }
+        match profile {
+            Profile::Standard => answer!(standard),
+            Profile::FirstCome => answer!(first_come),
         }
     }
 
@@ -88,9 +102,10 @@ fn of_pair(pair: Pair) -> Answer {
     }
 }
 
-/// Which case of which test is running, for the report of a failure.
+/// Which case of which test is running, for the report of a failure, and the profile it calls.
 #[derive(Clone, Copy, Debug)]
 pub struct Case {
+    pub profile: Profile,
     pub seed: u64,
     pub test: &'static str,
     pub case: u64,
@@ -98,8 +113,17 @@ pub struct Case {
 
 impl Case {
     pub fn new(test: &'static str, case: u64) -> Self {
+        Case::of(Profile::Standard, test, case)
+    }
+
+    pub fn of(profile: Profile, test: &'static str, case: u64) -> Self {
         let seed = books::seed();
-        Case { seed, test, case }
+        Case {
+            profile,
+            seed,
+            test,
+            case,
+        }
     }
 
     pub fn rng(&self) -> Rng {
@@ -123,11 +147,12 @@ pub fn spelled(book: &[u32]) -> String {
 /// Prints a case whole and fails.
 pub fn fail(case: Case, book: &[u32], call: &dyn std::fmt::Debug, what: &str) -> ! {
     panic!(
-        "DIFFERENCE\n  JELVAKSNA_SEED={:#x}, test '{}', case {}\n  book {}\n  call {call:?}\n{what}",
+        "DIFFERENCE\n  JELVAKSNA_SEED={:#x}, test '{}', case {}\n  book {}\n  call {call:?}, {:?}\n{what}",
         case.seed,
         case.test,
         case.case,
-        spelled(book)
+        spelled(book),
+        case.profile
     );
 }
 
@@ -152,7 +177,7 @@ pub fn compare(case: Case, book: &[u32], day: &Result<Day, Refusal>, call: &Call
         Call::Verdict { posting } => &posting[..],
         _ => &[],
     };
-    let have = call.of_archive(book, posting, &mut have_words[within]);
+    let have = call.of_archive(case.profile, book, posting, &mut have_words[within]);
     settle(case, book, call, (want, &want_words), (have, &have_words));
 }
 
@@ -193,7 +218,7 @@ pub fn compare_fenced(
     for side in [fence::Side::End, fence::Side::Start] {
         let fresh = filled(call.len());
         let (have, have_words, spilt) = fences.lend(side, book, posting, &fresh, |b, p, r| {
-            call.of_archive(b, p, r)
+            call.of_archive(case.profile, b, p, r)
         });
         settle(case, book, call, (want, &want_words), (have, &have_words));
         if spilt {
@@ -253,8 +278,9 @@ impl std::fmt::Display for Accepted {
     }
 }
 
-/// Makes books and hands each call that suits them to `compare`.
+/// Makes books and hands each call of the profile that suits them to `compare`.
 pub fn each_call(
+    profile: Profile,
     test: &'static str,
     count: u64,
     effort: Effort,
@@ -263,10 +289,10 @@ pub fn each_call(
 ) {
     let (mut made, mut plans, mut accepted) = (0, 0, Accepted::default());
     for i in 0..count {
-        let case = Case::new(test, i);
+        let case = Case::of(profile, test, i);
         let mut rng = case.rng();
         let book = make(&mut rng, i);
-        let day = Day::read(&book);
+        let day = Day::read_as(profile, &book);
         for call in calls(&mut rng, &day, effort) {
             compare(case, &book, &day, &call);
             made += 1;
