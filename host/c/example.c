@@ -1,6 +1,6 @@
 /* A day of two transcripts: its plans, an order, a verdict and a row's words;
  * then the same day with a class for each row in place of its due, with the rows
- * in the other sequence, and at another pace.
+ * in the other sequence, at another pace, and first come, first due.
  *
  *     cc -std=c11 -Iinclude host/c/example.c target/staticlib/libjelvaksna.a
  */
@@ -120,6 +120,34 @@ int main(void) {
     EXPECT(answer.refusal == 0 && answer.end == 12 && answer.late == 0 && order[0] == 1 && order[1] == 2);
     printf("8 pages at pace 50, at most 5 late: end %" PRIu32 ", rows", answer.end);
     print_order(order, 2);
+
+    /* First come, first due: the long row, released first, may not be due last. */
+    answer = jelvaksna_first_come_list(book, words, list, JELVAKSNA_MAX_LIST_WORDS);
+    EXPECT(answer.refusal == JELVAKSNA_CROSSED && answer.place == 6);
+    /* With the short row due at 20 it is not. One plan, by release. */
+    uint32_t come[sizeof book / sizeof *book];
+    memcpy(come, book, sizeof book);
+    come[5] = JELVAKSNA_WORD(6, 20);
+    answer = jelvaksna_first_come_list(come, words, list, JELVAKSNA_MAX_LIST_WORDS);
+    EXPECT(answer.refusal == 0 && answer.count == 1 && list[0] == 11 && (int32_t)list[1] == -2);
+    answer = jelvaksna_first_come_order_of_plan(come, words, 1, order, 2);
+    EXPECT(answer.refusal == 0 && answer.end == 11 && answer.late == -2 && order[0] == 2 && order[1] == 1);
+    printf("first come, first due: end %" PRIu32 ", late %" PRId32 ", rows", answer.end, answer.late);
+    print_order(order, 2);
+    answer = jelvaksna_first_come_order_of_plan(come, words, 2, order, 2);
+    EXPECT(answer.refusal == JELVAKSNA_UNLISTED && answer.place == 1);
+    answer = jelvaksna_first_come_order_for_bound(come, words, -2, order, 2);
+    EXPECT(answer.refusal == 0 && answer.end == 11 && answer.late == -2);
+    answer = jelvaksna_first_come_order_for_bound(come, words, -3, order, 2);
+    EXPECT(answer.refusal == JELVAKSNA_UNKEPT && answer.place == 0);
+    const uint32_t by_row[] = {1, 2};
+    answer = jelvaksna_first_come_verdict(come, words, by_row, 2);
+    EXPECT(answer.refusal == 0 && answer.end == 12 && answer.late == 0 && answer.count == 1);
+    answer = jelvaksna_first_come_row_place(come, words, 2);
+    EXPECT(answer.refusal == 0 && answer.place == 6);
+    /* The other calls refuse it: the short row now has the later due and more spare. */
+    answer = jelvaksna_list(come, words, list, JELVAKSNA_MAX_LIST_WORDS);
+    EXPECT(answer.refusal == JELVAKSNA_DISORDER && answer.place == 6);
 
     /* A book that stops, and an empty one. */
     answer = jelvaksna_list(book, words - 1, list, JELVAKSNA_MAX_LIST_WORDS);

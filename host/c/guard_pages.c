@@ -36,8 +36,27 @@ static int bad(const char *what, size_t n) {
     return 1;
 }
 
+/* The calls of a profile. */
+typedef struct {
+    jelvaksna_answer (*list)(const uint32_t *, size_t, uint32_t *, size_t);
+    jelvaksna_answer (*order_for_bound)(const uint32_t *, size_t, int32_t, uint32_t *, size_t);
+    jelvaksna_answer (*order_of_plan)(const uint32_t *, size_t, uint32_t, uint32_t *, size_t);
+    jelvaksna_answer (*verdict)(const uint32_t *, size_t, const uint32_t *, size_t);
+    jelvaksna_answer (*row_place)(const uint32_t *, size_t, uint32_t);
+} profile;
+
+static const profile standard = {
+    jelvaksna_list, jelvaksna_order_for_bound, jelvaksna_order_of_plan,
+    jelvaksna_verdict, jelvaksna_row_place,
+};
+
+static const profile first_come = {
+    jelvaksna_first_come_list, jelvaksna_first_come_order_for_bound, jelvaksna_first_come_order_of_plan,
+    jelvaksna_first_come_verdict, jelvaksna_first_come_row_place,
+};
+
 /* All calls on the first n words of a sound book of so many rows. */
-static int calls(const uint32_t *sound, size_t n, size_t rows, int at_end) {
+static int calls(const profile *of, const uint32_t *sound, size_t n, size_t rows, int at_end) {
     const size_t whole = 4 * rows + 3;
     uint32_t *book = fenced(sound, n, at_end, PROT_READ);
     uint32_t *list = fenced(NULL, 2 * rows, at_end, PROT_READ | PROT_WRITE);
@@ -47,12 +66,12 @@ static int calls(const uint32_t *sound, size_t n, size_t rows, int at_end) {
     const uint32_t want = n < whole ? JELVAKSNA_CUT : 0;
     const size_t cut = n < whole ? n : 0;
 
-    jelvaksna_answer a = jelvaksna_list(book, n, list, 2 * rows);
+    jelvaksna_answer a = of->list(book, n, list, 2 * rows);
     if (a.refusal != want || a.place != cut || (want == 0) != (a.count > 0))
         return bad("list", n);
     const size_t plans = a.count;
     for (size_t plan = 0; plan <= plans + 1; plan++) {
-        a = jelvaksna_order_of_plan(book, n, (uint32_t)plan, order, rows);
+        a = of->order_of_plan(book, n, (uint32_t)plan, order, rows);
         uint32_t expected = want != 0 ? want : plan == 0 || plan > plans ? JELVAKSNA_UNLISTED : 0;
         if (a.refusal != expected)
             return bad("order of a plan", n);
@@ -60,29 +79,29 @@ static int calls(const uint32_t *sound, size_t n, size_t rows, int at_end) {
             if (a.end != list[2 * plan - 2] || (uint32_t)a.late != list[2 * plan - 1])
                 return bad("pair of a plan", n);
             uint32_t *posting = fenced(order, rows, at_end, PROT_READ);
-            a = jelvaksna_verdict(book, n, posting, rows);
+            a = of->verdict(book, n, posting, rows);
             if (a.refusal != 0 || a.count != 0 || a.end != list[2 * plan - 2])
                 return bad("verdict on a plan", n);
             unfence(posting, rows, at_end);
         }
     }
-    a = jelvaksna_order_for_bound(book, n, INT32_MAX, order, rows);
+    a = of->order_for_bound(book, n, INT32_MAX, order, rows);
     if (a.refusal != want || (want == 0 && a.end != list[0]))
         return bad("order for a bound", n);
-    a = jelvaksna_order_for_bound(book, n, INT32_MIN, order, rows);
+    a = of->order_for_bound(book, n, INT32_MIN, order, rows);
     if (a.refusal != (want != 0 ? want : JELVAKSNA_UNKEPT))
         return bad("bound that is not kept", n);
-    a = jelvaksna_row_place(book, n, (uint32_t)rows);
+    a = of->row_place(book, n, (uint32_t)rows);
     if (a.refusal != want || a.place != (want != 0 ? cut : whole - 5))
         return bad("row", n);
 
     /* Empty buffers at addresses that cannot be touched. */
     uint32_t *dead = at_end ? order + rows : order - 1;
-    if (want == 0 && jelvaksna_list(book, n, dead, 0).refusal != JELVAKSNA_NARROW)
+    if (want == 0 && of->list(book, n, dead, 0).refusal != JELVAKSNA_NARROW)
         return bad("empty result", n);
-    if (want == 0 && jelvaksna_verdict(book, n, dead, 0).refusal != JELVAKSNA_NOT_POSTING)
+    if (want == 0 && of->verdict(book, n, dead, 0).refusal != JELVAKSNA_NOT_POSTING)
         return bad("empty posting", n);
-    if (jelvaksna_row_place(dead, 0, 1).refusal != JELVAKSNA_CUT)
+    if (of->row_place(dead, 0, 1).refusal != JELVAKSNA_CUT)
         return bad("empty book", n);
 
     unfence(book, n, at_end);
@@ -91,16 +110,17 @@ static int calls(const uint32_t *sound, size_t n, size_t rows, int at_end) {
     return 0;
 }
 
-/* Rows of one page whose gaps grow, and a long one that is there from the start. */
-static size_t make(uint32_t *book, size_t rows) {
+/* Rows of one page whose gaps grow, and on demand a long one that is there from
+ * the start: it crosses the others. */
+static size_t make(uint32_t *book, size_t rows, int with_long) {
     size_t n = 0;
     uint32_t minute = 0;
     book[n++] = JELVAKSNA_WORD(1, 0);
     book[n++] = JELVAKSNA_WORD(2, 60);
     for (uint32_t i = 1; i <= rows; i++) {
-        const int last = i == rows;
-        const uint32_t release = last ? 0 : minute + i;
-        const uint32_t pages = last ? minute + 1 : 1;
+        const int is_long = with_long && i == rows;
+        const uint32_t release = is_long ? 0 : minute + i;
+        const uint32_t pages = is_long ? minute + 1 : 1;
         book[n++] = JELVAKSNA_WORD(3, 900 + i);
         book[n++] = JELVAKSNA_WORD(4, release);
         book[n++] = JELVAKSNA_WORD(5, pages);
@@ -115,9 +135,13 @@ int main(void) {
     uint32_t book[JELVAKSNA_MAX_BOOK_WORDS];
     for (int at_end = 0; at_end < 2; at_end++) {
         for (size_t rows = 1; rows <= 40; rows += 3) {
-            const size_t whole = make(book, rows);
+            const size_t whole = make(book, rows, 1);
             for (size_t n = 0; n <= whole; n++)
-                if (calls(book, n, rows, at_end) != 0)
+                if (calls(&standard, book, n, rows, at_end) != 0)
+                    return 1;
+            make(book, rows, 0);
+            for (size_t n = 0; n <= whole; n++)
+                if (calls(&first_come, book, n, rows, at_end) != 0)
                     return 1;
         }
     }

@@ -1,4 +1,5 @@
-//! A day of two transcripts through the safe wrapper: its plans, an order, a verdict, a row.
+//! A day of two transcripts through the safe wrapper: its plans, an order, a verdict, a row; then
+//! first come, first due.
 //!
 //!     cargo run --offline --release --manifest-path host/Cargo.toml --example day
 
@@ -26,5 +27,10 @@ fn main() -> Result<(), Refusal> {
         .map(|w| w & 0x1fff_ffff)
         .collect();
     println!("row 2: {numbers:?}");
+
+    // The profile refuses rows of which the first to be released is due last.
+    println!("first come: {:?}", linked::first_come::plans(&book));
+    book[5] = word(6, 20);
+    println!("due at 20: {:?}", linked::first_come::plans(&book)?);
     Ok(())
 }
