@@ -6,7 +6,7 @@
 
 use jelvaksna::books::{self, Draft, Rng};
 use jelvaksna::model::{self, Day, MAX_ROWS};
-use jelvaksna::{linked, Pair};
+use jelvaksna::{linked, Pair, Profile};
 use std::hint::black_box;
 use std::time::{Duration, Instant};
 
@@ -93,6 +93,37 @@ fn measure(book: &[u32], day: &Day) -> [(f64, f64); CALLS.len()] {
     [list, order, verdict, row]
 }
 
+/// The list of the profile "first come, first due".
+fn first_come(seed: u64) {
+    println!("\nThe list of the profile:\n");
+    println!("| day | rows | archive µs | model µs | archive / model |");
+    println!("|---|---:|---:|---:|---:|");
+    for name in ["typical", "typical, unsorted"] {
+        for rows in SIZES {
+            let mut rng = Rng::for_case(seed, "bench", 3);
+            let mut day = books::steady_day(&mut rng, rows);
+            if name != "typical" {
+                day = day.shuffled(&mut rng);
+            }
+            let book = day.words();
+            let of_model = |result: &mut [u32]| {
+                Day::read_as(Profile::FirstCome, black_box(&book))?.list_into(result)
+            };
+            let (mut a, mut b) = ([0; 2 * MAX_ROWS], [0; 2 * MAX_ROWS]);
+            assert_eq!(linked::first_come::list(&book, &mut a), Ok(1));
+            assert_eq!((of_model(&mut b), a), (Ok(1), b));
+            let (archive, model) = time(
+                || linked::first_come::list(black_box(&book), &mut a),
+                || of_model(&mut b),
+            );
+            println!(
+                "| {name} | {rows} | {archive:.2} | {model:.2} | {:.3} |",
+                archive / model
+            );
+        }
+    }
+}
+
 fn main() {
     let seed = books::seed();
     println!("Microseconds a call, median of {RUNS} runs, seed {seed:#x}. Below 1 in the last column: the archive is faster.\n");
@@ -140,6 +171,7 @@ fn main() {
             model / archive
         );
     }
+    first_come(seed);
     println!("\nHow the archive's time grows with the rows (and the model's):\n");
     println!("| day | call | 8 to 32 | 32 to 128 | 128 to 256 |");
     println!("|---|---|---:|---:|---:|");
