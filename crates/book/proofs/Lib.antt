@@ -6,9 +6,10 @@ pub mod Tables
 pub mod NearestMinute
 pub mod Reached
 pub mod Whole
-pub mod Readings
-pub mod Places
+pub mod Clashes
 pub mod Disorder
 pub mod Accepted
+pub mod Readings
+pub mod Places
 pub mod OneClass
 pub mod Numbered

@@ -12,11 +12,14 @@ use Rattle.schedule.specs.declared.Class.the-variants.{Of}
 use Rattle.schedule.specs.Rows.{row, allRows}
 use Rattle.book.specs.declared.Tested.the-variants.{Passed}
 use Rattle.book.specs.Due.{ClassDue}
-use Rattle.book.specs.Order.{tighter, disagree}
+use Rattle.book.specs.Refusals.{byDisorder}
+use Rattle.book.specs.Order.{tighter, disagree, orderTests}
+use Rattle.book.specs.Book.{readBook}
 use Rattle.book.specs.OneClass.{OneClass}
 use Rattle.book.proofs.Signed.{ltZ-sums}
 use Rattle.book.proofs.Whole.{whole-words, by-number}
-use Rattle.book.proofs.Disorder.{agree-passes, read-by}
+use Rattle.book.proofs.Clashes.{none-passes, tested-by}
+use Rattle.book.proofs.Disorder.{disagree-mutual}
 
 and-false : (b : Bool) → (b && false) ≡ false
 and-false true = refl
@@ -38,6 +41,7 @@ unfolding disagree
 class-agrees c r s f g e h = rw (not-tighter c r s f g e h, not-tighter c s r g f h e)
 
 pub one-class : OneClass
+unfolding readBook
 one-class book c free rows reads same =
     let due : (i : ℕ) → List·Memᴰ i (allRows rows) → ClassDue (row rows i) = λ i m. by-number rows (whole-words book free rows reads .ranged) i m .class in
-    read-by book free rows reads Passed (agree-passes rows (λ i j m n. class-agrees c _ _ (due i m) (due j n) (same i m) (same j n)))
+    tested-by orderTests book free rows reads Passed (none-passes disagree-mutual byDisorder rows (λ i j m n. class-agrees c _ _ (due i m) (due j n) (same i m) (same j n)))

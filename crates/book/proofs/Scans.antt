@@ -1,4 +1,4 @@
--- The scans step by step: for an entry that passes a test, and for a row that disagrees with a row above it.
+-- The scans step by step: for an entry that passes a test, and for a row that clashes with a row above it.
 -- Assumes nothing.
 use Prim.Native.Nat.{ℕ, suc, _+_, _*_, _≤_, _<_}
 use native.Mathlib.Omega.{arith}
@@ -13,9 +13,9 @@ use Rattle.schedule.specs.declared.Row.{Row}
 use Rattle.schedule.specs.Rows.{noRow}
 use Rattle.book.specs.declared.Tested.{Tested}
 use Rattle.book.specs.declared.Tested.the-variants.{Passed, Refused}
-use Rattle.book.specs.Refusals.{byDisorder, refuseIf, _then_}
+use Rattle.book.specs.Refusals.{refuseIf, _then_}
 use Rattle.book.specs.Rows.{any, stands}
-use Rattle.book.specs.Order.{disagree, disorderFrom}
+use Rattle.book.specs.Pairs.{pairTestsFrom}
 
 -- The scan for an entry: one entry more.
 any-more : {A : Type 0} (test : A → Bool) (xs : List A) (x : A) → any test (xs ++ (x ∷ [])) ≡ (any test xs || test x)
@@ -35,22 +35,23 @@ pub stands-more : (n m : ℕ) (ms : List ℕ) → stands n (m ∷ ms) ≡ (eqb n
 unfolding stands any
 stands-more n m ms = refl
 
--- The scan for a disorder, at the row in place i, places counted from 0.
-abbrev pub disorderAt : List Row → ℕ → Tested
-disorderAt rs i = disorderFrom (4 * i + 2) (take i rs) (drop i rs)
+-- The scan for a clash, at the row in place i, places counted from 0.
+module _ (clash : Row → Row → Bool) (number : ℕ) (rs : List Row) where
+  abbrev pub pairsAt : ℕ → Tested
+  pairsAt i = pairTestsFrom clash number (4 * i + 2) (take i rs) (drop i rs)
 
--- The row disagrees with a row above it; with none; no row is left.
-module _ (rs : List Row) (i : ℕ) where
-  pub order-here : i < length rs → any (disagree (getD rs i noRow)) (take i rs) ≡ true → disorderAt rs i ≡ Refused byDisorder (4 * i + 2)
-  unfolding disorderFrom refuseIf _then_
-  order-here h e = rw (drop-cons rs i noRow h, e)
+  -- The row clashes with a row above it; with none; no row is left.
+  pub pairs-here : (i : ℕ) → i < length rs → any (clash (getD rs i noRow)) (take i rs) ≡ true → pairsAt i ≡ Refused number (4 * i + 2)
+  unfolding pairTestsFrom refuseIf _then_
+  pairs-here i h e = rw (drop-cons rs i noRow h, e)
 
-  pub order-on : i < length rs → any (disagree (getD rs i noRow)) (take i rs) ≡ false → disorderAt rs i ≡ disorderAt rs (i + 1)
-  unfolding disorderFrom refuseIf _then_
-  order-on h e =
+  pub pairs-on : (i : ℕ) → i < length rs → any (clash (getD rs i noRow)) (take i rs) ≡ false → pairsAt i ≡ pairsAt (i + 1)
+  unfolding pairTestsFrom refuseIf _then_
+  pairs-on i h e =
       let next : 4 * i + 2 + 4 ≡ 4 * suc i + 2 = omega arith in
-      rw (drop-cons rs i noRow h, e, add-one, take-suc rs i noRow h) (ap (λ (p : ℕ). disorderFrom p (take i rs ++ (getD rs i noRow ∷ [])) (drop (suc i) rs)) next)
+      rw (drop-cons rs i noRow h, e, add-one, take-suc rs i noRow h)
+      (ap (λ (p : ℕ). pairTestsFrom clash number p (take i rs ++ (getD rs i noRow ∷ [])) (drop (suc i) rs)) next)
 
-  pub order-end : length rs ≤ i → disorderAt rs i ≡ Passed
-  unfolding disorderFrom
-  order-end h = rw (drop-of-length-le rs h)
+  pub pairs-end : (i : ℕ) → length rs ≤ i → pairsAt i ≡ Passed
+  unfolding pairTestsFrom
+  pairs-end i h = rw (drop-of-length-le rs h)

@@ -20,8 +20,7 @@ use Rattle.book.specs.Refusals.{byTail}
 use Rattle.book.specs.Words.{kind, value, word}
 use Rattle.book.specs.Due.{margin, classOf, Margined, dueBy, ClassDue}
 use Rattle.book.specs.Rows.{Contents, refused, accepted, refusedOr, numbersOf, rowTests, lengthOf, rowOf, endStands, endTests, readRows}
-use Rattle.book.specs.Order.{orderTests}
-use Rattle.book.specs.Book.{headTests, inOrder, readWords, readBook}
+use Rattle.book.specs.Book.{headTests, testedBy, readWords}
 use Rattle.book.proofs.Tests.{never, and-left, and-right, then-right, not-refused, Fit, row-fits, HeadFit, head-fits}
 use Rattle.book.proofs.NearestMinute.{length-least, length-most}
 use Rattle.book.proofs.Reached.{read-end, read-on}
@@ -162,25 +161,18 @@ whole-words ws f rs e =
       ranged = t .ranged (h .pace .least, h .pace .most) (λ i l. let x : ⊥ = omega arith in absurd x);
     }
 
--- An accepted book passed them, and its rows are in order.
-order-contents : (x : Contents) (f : ℕ) (rs : List Row) → inOrder x ≡ accepted f rs → x ≡ accepted f rs
-unfolding inOrder
-order-contents (refused n p) f rs e = e
-order-contents (accepted free rows) f rs e = or-contents (orderTests rows) (accepted free rows) e
+-- A book that is accepted after one test more of its rows passed them, and the rows pass that test.
+module _ (tests : List Row → Tested) where
+  pub tested-contents : (x : Contents) (f : ℕ) (rs : List Row) → testedBy tests x ≡ accepted f rs → x ≡ accepted f rs
+  unfolding testedBy
+  tested-contents (refused n p) f rs e = e
+  tested-contents (accepted free rows) f rs e = or-contents (tests rows) (accepted free rows) e
 
-order-passed : (x : Contents) (f : ℕ) (rs : List Row) → inOrder x ≡ accepted f rs → orderTests rs ≡ Passed
-unfolding inOrder
-order-passed (refused n p) f rs e = absurd (no-contents e)
-order-passed (accepted free rows) f rs e =
-    let k : accepted free rows ≡ accepted f rs = or-contents (orderTests rows) (accepted free rows) e in
-    let o : orderTests rows ≡ Passed = or-tests (orderTests rows) (accepted free rows) e in
-    let same : rows ≡ rs = cc in
-    ap orderTests (sym same) ∙ o
-
-pub whole : (ws : List ℕ) (f : ℕ) (rs : List Row) → readBook ws ≡ accepted f rs → WholeBook ws f rs
-unfolding readBook
-whole ws f rs e = whole-words ws f rs (order-contents (readWords ws) f rs e)
-
-pub ordered : (ws : List ℕ) (f : ℕ) (rs : List Row) → readBook ws ≡ accepted f rs → orderTests rs ≡ Passed
-unfolding readBook
-ordered ws f rs e = order-passed (readWords ws) f rs e
+  pub tested-passed : (x : Contents) (f : ℕ) (rs : List Row) → testedBy tests x ≡ accepted f rs → tests rs ≡ Passed
+  unfolding testedBy
+  tested-passed (refused n p) f rs e = absurd (no-contents e)
+  tested-passed (accepted free rows) f rs e =
+      let k : accepted free rows ≡ accepted f rs = or-contents (tests rows) (accepted free rows) e in
+      let o : tests rows ≡ Passed = or-tests (tests rows) (accepted free rows) e in
+      let same : rows ≡ rs = cc in
+      ap tests (sym same) ∙ o

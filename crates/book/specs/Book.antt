@@ -1,7 +1,8 @@
 -- The whole book: what it gives, the table that the reader makes of it, and the words of a row.
 -- Rests on: Order.
-use Prim.Native.Nat.{ℕ, _+_, _-_, _*_}
+use Prim.Native.Nat.{ℕ, _+_, _-_, _*_, _≤_}
 use mathlib.Core.Bool.{cond, _||_}
+use mathlib.Core.Path.{_≡_}
 use mathlib.Core.List.{List, [], _++_}
 use lib.Dec.{ltb, eqb}
 use lib.ListN.{length, take, drop, replicate}
@@ -22,17 +23,17 @@ use Rattle.book.specs.Order.{orderTests, openOrder}
 unfoldable pub headTests : List ℕ → Tested
 headTests ws = wordTests 1 0 10000000 0 ws 0 then wordTests 2 4 120 0 ws 1
 
--- Disorder is tested last, once the rows are read.
-unfoldable pub inOrder : Contents → Contents
-inOrder (refused n p) = refused n p
-inOrder (accepted free rows) = refusedOr (orderTests rows) (accepted free rows)
+-- A test of the rows comes last, once they are read.
+unfoldable pub testedBy : (List Row → Tested) → Contents → Contents
+testedBy tests (refused n p) = refused n p
+testedBy tests (accepted free rows) = refusedOr (tests rows) (accepted free rows)
 
--- The book: the free minute, the pace, 1 to 256 rows, the end. Tests 1 to 7; then all tests.
+-- The book: the free minute, the pace, 1 to 256 rows, the end. Tests 1 to 7; then test 8 too.
 unfoldable pub readWords : List ℕ → Contents
 readWords ws = refusedOr (headTests ws) (readRows 257 (value (word ws 0)) (value (word ws 1)) [] 2 (drop 2 ws))
 
 unfoldable pub readBook : List ℕ → Contents
-readBook ws = inOrder (readWords ws)
+readBook ws = testedBy orderTests (readWords ws)
 
 -- The table: the free minute, the count of rows, the rows, and no row in the places after them. And the rows that it holds.
 unfoldable pub tableOf : ℕ → List Row → Table
@@ -70,7 +71,15 @@ wordsAt (found.Refused n p) book = []
 abbrev pub rowWords : List ℕ → ℕ → List ℕ
 rowWords book k = wordsAt (rowPlace book k) book
 
+-- The four words at a place that was found stand in the book.
+abbrev pub WordsInside : Found → List ℕ → Type 0
+WordsInside f book = (place : ℕ) → f ≡ found.At place → place + 4 ≤ length book
+
+-- What is answered from the outcome of a reading and its count of rows: the place of row k in any contents that read so.
+abbrev pub PlaceAmong : Tested → (count k : ℕ) → Found → Type 0
+PlaceAmong outcome count k f = (x : Contents) → outcome ≡ readingOf x .outcome → count ≡ readingOf x .table .count → f ≡ placeIn x k
+
 -- Opens every definition of the book: name it on an `unfolding` line where all is to be computed.
 unfoldable pub openBook : Unit {0}
-unfolding openOrder headTests inOrder readWords readBook tableOf readingOf placeIn
+unfolding openOrder headTests testedBy readWords readBook tableOf readingOf placeIn
 openBook = tt

@@ -1,16 +1,15 @@
 -- The order of the rows, test 8: no two rows disagree.
--- Rests on: Rows.
+-- Rests on: Pairs.
 use Prim.Native.Nat.{ℕ, _+_}
 use mathlib.Core.Bool.{Bool, _&&_, _||_}
-use mathlib.Core.List.{List, [], _∷_, _++_}
+use mathlib.Core.List.{List}
 use lib.Dec.{ltb}
 use lib.IntN.{ℤ, subℕ}
 use lib.Signed.{ltZ}
 use Rattle.schedule.specs.declared.Row.{Row}
 use Rattle.book.specs.declared.Tested.{Tested}
-use Rattle.book.specs.declared.Tested.the-variants.{Passed}
-use Rattle.book.specs.Refusals.{byDisorder, refuseIf, _then_}
-use Rattle.book.specs.Rows.{any, openRows}
+use Rattle.book.specs.Refusals.{byDisorder}
+use Rattle.book.specs.Pairs.{pairTests, openPairs}
 
 -- Spare: due minus release minus length, signed.
 abbrev pub spare : Row → ℤ
@@ -24,16 +23,11 @@ tighter r s = ltb (r .due) (s .due) && ltZ (spare r) (spare s)
 unfoldable pub disagree : Row → Row → Bool
 disagree r s = tighter r s || tighter s r
 
--- Disorder among `rows`, which stand below the rows `above`; the first has its number word at `place`. The earliest row that disagrees with any row above it counts.
-unfoldable pub disorderFrom : ℕ → (above rows : List Row) → Tested
-disorderFrom place above [] = Passed
-disorderFrom place above (r ∷ rows) = refuseIf (any (disagree r) above) byDisorder place then disorderFrom (place + 4) (above ++ (r ∷ [])) rows
-
--- The whole test: the first row of a book has its number word at 2.
+-- The whole test: refused 8 at the earliest row that disagrees with any row above it.
 abbrev pub orderTests : List Row → Tested
-orderTests rows = disorderFrom 2 [] rows
+orderTests rows = pairTests disagree byDisorder rows
 
 -- Opens every definition of this file and of those that it rests on.
 unfoldable pub openOrder : Unit {0}
-unfolding openRows tighter disagree disorderFrom
+unfolding openPairs tighter disagree
 openOrder = tt

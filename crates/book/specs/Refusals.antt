@@ -53,6 +53,10 @@ byUnlisted = 11
 abbrev pub byUnkept : ℕ
 byUnkept = 12
 
+-- 13, crossed: two rows cross.
+abbrev pub byCrossed : ℕ
+byCrossed = 13
+
 -- One test: where it is true, the refusal with its number and its place.
 unfoldable pub refuseIf : Bool → ℕ → ℕ → Tested
 refuseIf true number place = Refused number place

@@ -10,8 +10,8 @@ ghost use Rattle.book.specs.Words.{kind, value, word, outside, kindTests
 ghost use Rattle.book.specs.Due.{margin, classOf, dueTests, Margined, dueBy};
 ghost use Rattle.book.specs.Rows.{stands, numberTests, rowTests, lengthOf, rowOf, rowReadOf, endStands, endTests, readRows};
 ghost use Rattle.book.specs.Order.{orderTests};
-ghost use Rattle.book.specs.Columns.{Limited, AllLimited, raisedSpare, pairDisagrees, anyDisagrees};
-ghost use Rattle.book.specs.Book.{headTests, readBook, tableOf, tableRows, readingOf, settledOf, rowPlace, rowWords};
+ghost use Rattle.book.specs.Columns.{Limited, AllLimited, raisedSpare, pairClashes, anyClashes, ColumnsTested};
+ghost use Rattle.book.specs.Book.{headTests, readWords, readBook, tableOf, tableRows, readingOf, settledOf, wordsAt, rowPlace, rowWords, WordsInside, PlaceAmong};
 use schedule::Class;
 use schedule::Desk;
 use schedule::Row;
@@ -75,6 +75,8 @@ impl Tested {
     pub const UNLISTED: u32 = 11;
 
     pub const UNKEPT: u32 = 12;
+
+    pub const CROSSED: u32 = 13;
 }
 
 impl Table {
@@ -338,7 +340,7 @@ fn end_tests(count: usize, place: usize, rest: &[u32]) -> Tested
 }
 
 // The answer for a refused book.
-fn refused(outcome: Tested) -> Reading
+pub fn refused(outcome: Tested) -> Reading
     ensures { λ r. ⌜ r ≡ record { outcome = outcome; table = tableOf 0 [] } ⌝ }
 {
     let none = Table::empty(0);
@@ -396,38 +398,31 @@ fn read_rows(free: u32, pace: u32, book: &[u32]) -> Reading
     }
 }
 
-// The spare of a row, raised so that it is never below 0.
-fn spare_of(r: Row) -> u32
-    requires { ⌜ Limited r ⌝ }
-    ensures { λ s. ⌜ s ≡ raisedSpare r ⌝ }
+// Two rows clash: one has the smaller due and also the smaller slack. Here and below every side is worked out: a branch that goes either way from pair to pair
+// costs more.
+fn pair_clashes(due: u32, slack: u32, d: u32, s: u32) -> bool
+    ensures { λ r. ⌜ r ≡ pairClashes due slack d s ⌝ }
 {
-    r.due + 10_030_000 - (r.release + r.length)
+    (due < d) & (slack < s) | (d < due) & (s < slack)
 }
 
-// Two rows disagree: one has the smaller due and also the smaller spare. Here and below every side is worked out: a branch that goes either way from pair to pair costs more.
-fn pair_disagrees(due: u32, spare: u32, d: u32, s: u32) -> bool
-    ensures { λ r. ⌜ r ≡ pairDisagrees due spare d s ⌝ }
-{
-    (due < d) & (spare < s) | (d < due) & (s < spare)
-}
-
-// A due and a spare against the columns up to `end`; those below `from` are known not to disagree. The loop goes on where one does: so it has no branch, and
+// A due and a slack against the columns up to `end`; those below `from` are known not to clash. The loop goes on where one does: so it has no branch, and
 // several places are compared at a time.
-fn disagrees_above(
+fn clashes_above(
     dues: &[u32; Desk::ROWS],
-    spares: &[u32; Desk::ROWS],
+    slacks: &[u32; Desk::ROWS],
     from: usize,
     end: usize,
     due: u32,
-    spare: u32,
+    slack: u32,
 ) -> bool
-    requires { ⌜ (from ≤ end) × (end ≤ 256) × (length (now dues) ≡ 256) × (length (now spares) ≡ 256) × (anyDisagrees (now dues) (now spares) due spare from ≡ false) ⌝ }
-    ensures { λ r. ⌜ r ≡ anyDisagrees (now (dues .entry)) (now (spares .entry)) due spare end ⌝ }
+    requires { ⌜ (from ≤ end) × (end ≤ 256) × (length (now dues) ≡ 256) × (length (now slacks) ≡ 256) × (anyClashes (now dues) (now slacks) due slack from ≡ false) ⌝ }
+    ensures { λ r. ⌜ r ≡ anyClashes (now (dues .entry)) (now (slacks .entry)) due slack end ⌝ }
 {
     let mut found = false;
     let mut j = from;
     while j < end {
-        found = found | pair_disagrees(due, spare, dues[j], spares[j]);
+        found = found | pair_clashes(due, slack, dues[j], slacks[j]);
         j += 1;
     }
     found
@@ -441,8 +436,46 @@ fn stretch_end(from: usize, end: usize) -> usize
     if end - from < 128 { end } else { from + 128 }
 }
 
-// Disorder in the rows of a table: each row against the rows above it, a stretch of them at a time, up to the first that disagrees with one of them. The dues
-// and the spares of the rows above stand in two columns.
+// A test of row pairs, over the columns of the rows: each row against the rows above it, a stretch of them at a time, up to the first that clashes with one of
+// them. `number` is what the refusal tells.
+pub fn pair_tests(
+    dues: &[u32; Desk::ROWS],
+    slacks: &[u32; Desk::ROWS],
+    count: usize,
+    number: u32,
+) -> Tested
+    requires { ⌜ (count ≤ 256) × (length (now dues) ≡ 256) × (length (now slacks) ≡ 256) ⌝ }
+    ensures { λ r. ⌜ ColumnsTested (now (dues .entry)) (now (slacks .entry)) count number r ⌝ }
+{
+    let mut i = 0;
+    'rows: loop {
+        if count <= i {
+            break 'rows Tested::Passed;
+        }
+        let due = dues[i];
+        let slack = slacks[i];
+        let mut j = 0;
+        while j < i {
+            let end = stretch_end(j, i);
+            if clashes_above(dues, slacks, j, end, due, slack) {
+                let place = 4 * i + 2;
+                break 'rows Tested::Refused(number, place);
+            }
+            j = end;
+        }
+        i += 1;
+    }
+}
+
+// The spare of a row, raised so that it is never below 0.
+fn spare_of(r: Row) -> u32
+    requires { ⌜ Limited r ⌝ }
+    ensures { λ s. ⌜ s ≡ raisedSpare r ⌝ }
+{
+    r.due + 10_030_000 - (r.release + r.length)
+}
+
+// Disorder in the rows of a table: the pair test of their dues and spares.
 fn order_tests(table: Table) -> Tested
     requires { ⌜ (table .count ≤ 256) × AllLimited (tableRows table) ⌝ }
     ensures { λ r. ⌜ r ≡ orderTests (tableRows table) ⌝ }
@@ -451,25 +484,13 @@ fn order_tests(table: Table) -> Tested
     let mut dues: [u32; Desk::ROWS] = [0; Desk::ROWS];
     let mut spares: [u32; Desk::ROWS] = [0; Desk::ROWS];
     let mut i = 0;
-    'rows: loop {
-        if count <= i {
-            break 'rows Tested::Passed;
-        }
+    while i < count {
         let r = table.rows[i];
-        let spare = spare_of(r);
-        let mut j = 0;
-        while j < i {
-            let end = stretch_end(j, i);
-            if disagrees_above(&dues, &spares, j, end, r.due, spare) {
-                let place = 4 * i + 2;
-                break 'rows Tested::Refused(Tested::DISORDER, place);
-            }
-            j = end;
-        }
         dues[i] = r.due;
-        spares[i] = spare;
+        spares[i] = spare_of(r);
         i += 1;
     }
+    pair_tests(&dues, &spares, count, Tested::DISORDER)
 }
 
 // The tests of the free minute and the pace.
@@ -481,9 +502,9 @@ fn head_tests(book: &[u32]) -> Tested
     then(free, pace)
 }
 
-// The table of a book, or the refusal.
-pub fn read(book: &[u32]) -> Reading
-    ensures { λ r. ⌜ r ≡ readingOf (readBook (now (book .entry))) ⌝ }
+// The table of a book that passes tests 1 to 7, or the refusal.
+pub fn read_words(book: &[u32]) -> Reading
+    ensures { λ r. ⌜ r ≡ readingOf (readWords (now (book .entry))) ⌝ }
 {
     let head = head_tests(book);
     let Tested::Passed = head else {
@@ -491,7 +512,14 @@ pub fn read(book: &[u32]) -> Reading
     };
     let free = value_of(word_at(book, 0));
     let pace = value_of(word_at(book, 1));
-    let all = read_rows(free, pace, book);
+    read_rows(free, pace, book)
+}
+
+// The table of a book, or the refusal: test 8 comes last.
+pub fn read(book: &[u32]) -> Reading
+    ensures { λ r. ⌜ r ≡ readingOf (readBook (now (book .entry))) ⌝ }
+{
+    let all = read_words(book);
     let outcome = all.outcome;
     let Tested::Passed = outcome else {
         return all;
@@ -503,16 +531,13 @@ pub fn read(book: &[u32]) -> Reading
     all
 }
 
-// The place of a row's number word, rows counted from 1, or the refusal.
-pub fn row_place(book: &[u32], row: u32) -> Found
-    ensures { λ r. ⌜ r ≡ rowPlace (now (book .entry)) row ⌝ }
+// The place of a row's number word, rows counted from 1, or the refusal: from the outcome of a reading and its count of rows.
+pub fn place_among(outcome: Tested, count: usize, row: u32) -> Found
+    ensures { λ r. ⌜ PlaceAmong outcome count row r ⌝ }
 {
-    let all = read(book);
-    let outcome = all.outcome;
     if let Tested::Refused(n, p) = outcome {
         return Found::Refused(n, p);
     }
-    let count = all.table.count;
     let k = row as usize;
     let unlisted = Found::Refused(Tested::UNLISTED, count);
     if k == 0 {
@@ -525,15 +550,33 @@ pub fn row_place(book: &[u32], row: u32) -> Found
     Found::At(place)
 }
 
-// The four words of a row, as the part of the caller's book that holds them; empty where the call is refused.
-pub fn row_words<'a>(book: &'a [u32], row: u32) -> &'a [u32]
-    ensures { λ r. ⌜ now r ≡ rowWords (now (book .entry)) row ⌝ }
+// The same, from the book.
+pub fn row_place(book: &[u32], row: u32) -> Found
+    ensures { λ r. ⌜ r ≡ rowPlace (now (book .entry)) row ⌝ }
 {
-    match row_place(book, row) {
+    let all = read(book);
+    let outcome = all.outcome;
+    place_among(outcome, all.table.count, row)
+}
+
+// The four words at a place, as the part of the caller's book that holds them; empty where the call is refused.
+pub fn words_at<'a>(book: &'a [u32], found: Found) -> &'a [u32]
+    requires { ⌜ WordsInside found (now book) ⌝ }
+    ensures { λ r. ⌜ now r ≡ wordsAt found (now (book .entry)) ⌝ }
+{
+    match found {
         Found::At(start) => {
             let end = start + 4;
             &book[start..end]
         }
         Found::Refused(_, _) => &book[0..0],
     }
+}
+
+// The four words of a row, or none.
+pub fn row_words<'a>(book: &'a [u32], row: u32) -> &'a [u32]
+    ensures { λ r. ⌜ now r ≡ rowWords (now (book .entry)) row ⌝ }
+{
+    let found = row_place(book, row);
+    words_at(book, found)
 }

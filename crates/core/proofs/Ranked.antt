@@ -1,13 +1,12 @@
 -- Columns in the order of rank: the search over them answers for the rows themselves.
 -- Assumes nothing.
-use Prim.Native.Nat.{ℕ, zero, suc, _≤_, _<_}
+use Prim.Native.Nat.{ℕ, _≤_, _<_}
 use native.Mathlib.Omega.{arith}
-use native.Mathlib.Nat.{not-suc-le-zero, le-of-suc-le-suc}
-use mathlib.Core.Path.{_≡_, refl, sym, ap, _∙_}
-use mathlib.Core.List.{List, [], _∷_, _++_, map, List·Memᴰ, List·Memᴰ·head, List·Memᴰ·tail}
+use mathlib.Core.Path.{_≡_, sym, ap, _∙_}
+use mathlib.Core.List.{List, _++_, map, List·Memᴰ}
 use mathlib.Core.Option.{Option, none, some, Option·map}
-use lib.ListN.{length, take, drop, getD, length-map}
-use lib.Seq.{getD-take, length-take-le}
+use lib.ListN.{length, take, drop, length-map}
+use lib.Seq.{length-take-le}
 use Rattle.theory.specs.Jobs.{Job}
 use Rattle.schedule.specs.declared.Desk.{Desk}
 use Rattle.schedule.specs.Rows.{countFrom}
@@ -16,8 +15,10 @@ use Rattle.schedule.specs.Plans.{plans}
 use Rattle.schedule.specs.Promise.{Agreeing}
 use Rattle.schedule.specs.Offset.{raised, lowered, deskAt}
 use Rattle.schedule.specs.Columns.{at, columns, Limits}
+use Rattle.schedule.proofs.Sorted.{place-mem}
 use Rattle.schedule.proofs.Renumbered.{in-rank, renumbered, order-rows, pair-renumbered, agreeing, same-plans}
 use Rattle.ranks.specs.Tables.{Tabled}
+use Rattle.ranks.proofs.Ranking.{ranked-jobs}
 use Rattle.picks.specs.declared.Standing.{Standing}
 use Rattle.picks.specs.Standing.{Tables}
 use Rattle.core.specs.declared.Front.{Front}
@@ -25,11 +26,6 @@ use Rattle.core.specs.declared.Planned.the-variants.{Kept, Unkept}
 use Rattle.core.specs.Answers.{plannedOf, orderOf, writtenOf, Searched, Ordered, Listed}
 use Rattle.core.proofs.Signs.{through-late, followed-end, followed-raised}
 use Rattle.core.proofs.Lists.{fits}
-
-mem-at : (l : List ℕ) (i : ℕ) → i < length l → List·Memᴰ (getD l i 0) l
-mem-at [] i h = absurd (not-suc-le-zero h)
-mem-at (x ∷ l) zero h = List·Memᴰ·head refl
-mem-at (x ∷ l) (suc i) h = List·Memᴰ·tail (mem-at l i (le-of-suc-le-suc h))
 
 module _ {n : ℕ} {release length₀ due rows release′ length′ due′ by : List ℕ} (t : Tabled n release length₀ due rows release′ length′ due′ by) (limits : Limits (columns release length₀ due)) where
   abbrev job : ℕ → Job
@@ -39,7 +35,7 @@ module _ {n : ℕ} {release length₀ due rows release′ length′ due′ by : 
   job′ = columns release′ length′ due′
 
   same : (k : ℕ) → 1 ≤ k → k ≤ n → job′ k ≡ job (at rows k)
-  same k l h = λ x. record { release = t .releases-ranked .each k l h x; length = t .lengths-ranked .each k l h x; due = t .dues-ranked .each k l h x }
+  same = ranked-jobs (t .releases-ranked) (t .lengths-ranked) (t .dues-ranked)
 
   pub limits-ranked : Limits job′
   limits-ranked = record {
@@ -76,9 +72,7 @@ module _ {n : ℕ} {release length₀ due rows release′ length′ due′ by : 
       ranks-within = order-rows n job job′ (at rows) (t .by-rank) same free (lowered bound) ranks (g .kept h .0)
 
       pub ranks-high : (i : ℕ) → i < n → at order i ≤ 256
-      ranks-high i l =
-          let m = ranks-within (getD ranks i 0) (mem-at ranks i (omega (arith, ranks-long))) in
-          omega (arith, m, getD-take n order i 0 l)
+      ranks-high i l = omega (arith, ranks-within (at order i) (place-mem n order i l (omega (arith, g .places))))
 
       pub ordered-kept : (after : List ℕ) → after ≡ map (at rows) ranks ++ drop n out → Ordered job n free bound out (Kept (s .desk .minute) (s .desk .worst)) after
       unfolding plannedOf writtenOf

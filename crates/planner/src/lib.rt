@@ -43,7 +43,7 @@ pub enum Judged {
 }
 
 // A raised lateness in two's complement of 32 bits.
-fn word_of(late: u32) -> u32
+pub fn word_of(late: u32) -> u32
     ensures { λ r. ⌜ r ≡ complement (lowered late) ⌝ }
 {
     if late < 2_147_483_648 {
@@ -72,7 +72,7 @@ fn write_plans(front: Front, result: &mut [u32])
 }
 
 // The first pair beats the second: both numbers no greater, with one smaller.
-fn beats_pair(end: u32, late: u32, mark: u32, limit: u32) -> bool
+pub fn beats_pair(end: u32, late: u32, mark: u32, limit: u32) -> bool
     ensures { λ r. ⌜ r ≡ beats (pairAt end late) (pairAt mark limit) ⌝ }
 {
     if mark < end {
@@ -139,7 +139,7 @@ fn entry_tests(n: usize, posting: &[u32]) -> Tested
 }
 
 // Whether a posting has every row of n once: its length first, then its entries.
-fn posting_tests(n: usize, posting: &[u32]) -> Tested
+pub fn posting_tests(n: usize, posting: &[u32]) -> Tested
     requires { ⌜ n ≤ 256 ⌝ }
     ensures { λ r. ⌜ r ≡ postingTests n (now (posting .entry)) ⌝ }
 {
@@ -183,7 +183,7 @@ fn order_into(c: Columns, n: usize, free: u32, bound: u32, result: &mut [u32]) -
 }
 
 // The desk after a posting.
-fn posted(c: Columns, free: u32, posting: &[u32]) -> Desk
+pub fn posted(c: Columns, free: u32, posting: &[u32]) -> Desk
     requires { ⌜ Limits (jobsOf c) × (lib.ListN.length (c .release) ≡ 257) × (lib.ListN.length (c .length) ≡ 257) × (lib.ListN.length (c .due) ≡ 257) ⌝ }
     requires { ⌜ (free ≤ 10000000) × (lib.ListN.length (now posting) ≤ 256) × ((k : ℕ) → getD (now posting) k 0 ≤ 256) ⌝ }
     ensures { λ r. ⌜ r ≡ deskThrough (jobsOf c) (deskAt free) (now (posting .entry)) ⌝ }

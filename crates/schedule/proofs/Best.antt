@@ -31,6 +31,16 @@ pub record Plannable (job : ℕ → Job) (t : ℕ) (left : List ℕ) : Type 0 wh
 abbrev pub Tried : List ℕ → List ℕ → Type 0
 Tried left order = List·Memᴰ order (ordersOf (length left) left)
 
+-- The pairs of these orders are those that are attained.
+module _ (job : ℕ → Job) (t : ℕ) (left : List ℕ) where
+  pub order-pair : (order : List ℕ) → Tried left order → List·Memᴰ (pairOf job t order) (attained job t left)
+  unfolding attained
+  order-pair order o = Memᴰ·map (pairOf job t) o
+
+  pub pair-order : (p : Pair) → List·Memᴰ p (attained job t left) → (order : List ℕ) × Tried left order × (pairOf job t order ≡ p)
+  unfolding attained
+  pair-order p m = Memᴰ·of-map (pairOf job t) (ordersOf (length left) left) m
+
 -- What the order for a bound is.
 pub record BestFor (job : ℕ → Job) (t : ℕ) (left : List ℕ) (y : ℤ) (order : List ℕ) : Type 0 where
   pub whole : Tried left order
@@ -70,14 +80,6 @@ module _ {job : ℕ → Job} {t : ℕ} {left : List ℕ} (a : Plannable job t le
       step (some order) e = let b = best-for y order e in absurd (h order (b .whole) (b .kept))
 
   -- The same of pairs.
-  pub order-pair : (order : List ℕ) → Tried left order → List·Memᴰ (pairOf job t order) (attained job t left)
-  unfolding attained
-  order-pair order o = Memᴰ·map (pairOf job t) o
-
-  pub pair-order : (p : Pair) → List·Memᴰ p (attained job t left) → (order : List ℕ) × Tried left order × (pairOf job t order ≡ p)
-  unfolding attained
-  pair-order p m = Memᴰ·of-map (pairOf job t) (ordersOf (length left) left) m
-
   order-some : {order : List ℕ} → Tried left order → 0 < length order
   order-some {order} o = omega (arith, orders-length (length left) left order o, a .some-row)
 
@@ -90,13 +92,13 @@ module _ {job : ℕ → Job} {t : ℕ} {left : List ℕ} (a : Plannable job t le
   -- A bound that is kept: the pair of its order is attained, keeps it, and ends no later than any that does.
   pub soonest-pair : (y : ℤ) (order : List ℕ) → orderFor job t left y ≡ some order → (q : Pair) → List·Memᴰ q (attained job t left) → q .late ≼ y → pairOf job t order .end ≤ q .end
   soonest-pair y order e q m k =
-      let u = pair-order q m in
+      let u = pair-order job t left q m in
       subst (λ (z : Pair). pairOf job t order .end ≤ z .end) (u .2)
       (best-for y order e .soonest (u .0) (u .1) (kept-pair y (u .0) (u .1) (subst (λ (z : Pair). z .late ≼ y) (sym (u .2)) k)))
 
   pub no-pair : (y : ℤ) → orderFor job t left y ≡ none → (q : Pair) → List·Memᴰ q (attained job t left) → ¬ (q .late ≼ y)
   no-pair y e q m k =
-      let u = pair-order q m in
+      let u = pair-order job t left q m in
       none-keeps y e (u .0) (u .1) (kept-pair y (u .0) (u .1) (subst (λ (z : Pair). z .late ≼ y) (sym (u .2)) k))
 
   -- The end of an order for a bound is that of the theory for one of the rows.

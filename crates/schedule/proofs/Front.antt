@@ -13,6 +13,7 @@ use Rattle.schedule.specs.Plans.{beats, beatenBy, unbeaten, byOrder, pla
 use Rattle.schedule.proofs.Tests.{Compared, compared}
 use Rattle.schedule.proofs.Beats.{same-end}
 use Rattle.schedule.proofs.Tests.{nor, nor-both}
+use Rattle.schedule.proofs.Sorted.{Sorted, sorted-unique}
 
 -- A pair that is attained, and beaten by none that is.
 pub record Listed (all : List Pair) (p : Pair) : Type 0 where
@@ -201,39 +202,11 @@ above-mem {e} (p ∷ ps) {r} a m = go (List·Memᴰ·cases-cons m) (above-mem ps
 
 -- Two lists with rising ends and the same pairs are equal: the list is fixed by what is on it.
 pub rising-unique : (l m : List Pair) → Rising l → Rising m → ((p : Pair) → List·Memᴰ p l → List·Memᴰ p m) → ((p : Pair) → List·Memᴰ p m → List·Memᴰ p l) → l ≡ m
-rising-unique [] [] h k f g = refl
-rising-unique [] (q ∷ qs) h k f g = absurd (List·Memᴰ·not-nil (g q (List·Memᴰ·head refl)))
-rising-unique (p ∷ ps) [] h k f g = absurd (List·Memᴰ·not-nil (f p (List·Memᴰ·head refl)))
-rising-unique (p ∷ ps) (q ∷ qs) h k f g = λ i. e i ∷ rising-unique ps qs (h .1) (k .1) down up i
+rising-unique l m h k = sorted-unique Sooner (λ p q h k. omega arith) l m (sorted l h) (sorted m k)
   where
-    first : (p ≡ q) ⊎ List·Memᴰ p qs → (q ≡ p) ⊎ List·Memᴰ q ps → p ≡ q
-    first (inl s) t = s
-    first (inr s) (inl t) = sym t
-    first (inr s) (inr t) =
-        let a : q .end < p .end = above-mem qs (k .0) s in
-        let b : p .end < q .end = above-mem ps (h .0) t in
-        let z : ⊥ = omega arith in
-        absurd z
+    Sooner : Pair → Pair → Type 0
+    Sooner p q = p .end < q .end
 
-    e : p ≡ q
-    e = first (List·Memᴰ·cases-cons (f p (List·Memᴰ·head refl))) (List·Memᴰ·cases-cons (g q (List·Memᴰ·head refl)))
-
-    apart : {A : Type 0} (r s : Pair) → s .end < r .end → r ≡ s → A
-    apart r s l c =
-        let d : r .end ≡ s .end = ap (λ (x : Pair). x .end) c in
-        let z : ⊥ = omega arith in
-        absurd z
-
-    down : (r : Pair) → List·Memᴰ r ps → List·Memᴰ r qs
-    down r m = go (List·Memᴰ·cases-cons (f r (List·Memᴰ·tail m)))
-      where
-        go : (r ≡ q) ⊎ List·Memᴰ r qs → List·Memᴰ r qs
-        go (inl c) = apart r p (above-mem ps (h .0) m) (c ∙ sym e)
-        go (inr n) = n
-
-    up : (r : Pair) → List·Memᴰ r qs → List·Memᴰ r ps
-    up r m = go (List·Memᴰ·cases-cons (g r (List·Memᴰ·tail m)))
-      where
-        go : (r ≡ p) ⊎ List·Memᴰ r ps → List·Memᴰ r ps
-        go (inl c) = apart r q (above-mem qs (k .0) m) (c ∙ e)
-        go (inr n) = n
+    sorted : (ps : List Pair) → Rising ps → Sorted Sooner ps
+    sorted [] r = tt
+    sorted (p ∷ ps) r = (λ q m. above-mem ps (r .0) m, sorted ps (r .1))

@@ -1,10 +1,12 @@
 pub mod Tests
+pub mod Sorted
 pub mod Signed
 pub mod Words
 pub mod DeskLaws
 pub mod Orders
 pub mod Numbers
 pub mod PickLaws
+pub mod Comes
 pub mod JobsOf
 pub mod Beats
 pub mod Front
@@ -14,6 +16,7 @@ pub mod Best
 pub mod Listing
 pub mod Loop
 pub mod Promise
+pub mod Arrival
 pub mod Ranges
 pub mod Matches
 pub mod RankPicks

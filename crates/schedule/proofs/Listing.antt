@@ -42,12 +42,26 @@ mem-length : {p : Pair} (ps : List Pair) → List·Memᴰ p ps → 0 < length ps
 mem-length [] m = absurd (List·Memᴰ·not-nil m)
 mem-length (q ∷ qs) m = omega arith
 
-module _ {job : ℕ → Job} {t : ℕ} {left : List ℕ} (a : Plannable job t left) where
+-- Of any rows: every order is covered, there is a plan, and later plans are less late.
+module _ (job : ℕ → Job) (t : ℕ) (left : List ℕ) where
   pub covered : (order : List ℕ) → Tried left order → (p : Pair) × List·Memᴰ p (plans job t left) × NoWorse p (pairOf job t order)
   covered order o =
-      let u = listed-below (attained job t left) (pairOf job t order) (order-pair a order o) in
+      let u = listed-below (attained job t left) (pairOf job t order) (order-pair job t left order o) in
       (u .0, plans-complete job t left (u .0) (u .1), u .2)
 
+  pub some-plan : 0 < length (plans job t left)
+  some-plan = let u = covered left (perm-orders (length left) left left refl (Permᴰ·refl left)) in mem-length (plans job t left) (u .1)
+
+  pub later-less : (p q : Pair) → List·Memᴰ p (plans job t left) → List·Memᴰ q (plans job t left) → p .end < q .end → q .late ≺ p .late
+  later-less p q m n h = step (decLe (up (p .late) + down (q .late)) (up (q .late) + down (p .late)))
+    where
+      step : Dec (p .late ≼ q .late) → q .late ≺ p .late
+      step (yes l) =
+          let w = unbeaten-worse p q (plans-sound job t left q n .none-beats p (plans-sound job t left p m .found)) (omega arith, l) in
+          absurd (omega (arith, w .0))
+      step (no l) = omega arith
+
+module _ {job : ℕ → Job} {t : ℕ} {left : List ℕ} (a : Plannable job t left) where
   -- The order for the lateness of a listed pair has that pair.
   pub attained-for : (p : Pair) → List·Memᴰ p (plans job t left) → (order : List ℕ) × (orderFor job t left (p .late) ≡ some order) × (pairOf job t order ≡ p)
   attained-for p m = step (orderFor job t left (p .late)) refl
@@ -61,7 +75,7 @@ module _ {job : ℕ → Job} {t : ℕ} {left : List ℕ} (a : Plannable job t le
           let b = best-for a (p .late) order e in
           let q : Pair = pairOf job t order in
           let n : NoWorse q p = (soonest-pair a (p .late) order e p (l .found) (omega arith), pair-kept a (p .late) order (b .whole) (b .kept)) in
-          (order, refl, alike q p n (unbeaten-worse q p (l .none-beats q (order-pair a order (b .whole))) n))
+          (order, refl, alike q p n (unbeaten-worse q p (l .none-beats q (order-pair job t left order (b .whole))) n))
 
   pub few-plans : length (plans job t left) ≤ length left
   few-plans =
@@ -74,23 +88,10 @@ module _ {job : ℕ → Job} {t : ℕ} {left : List ℕ} (a : Plannable job t le
         length-map left job,
       )
 
-  pub some-plan : 0 < length (plans job t left)
-  some-plan = let u = covered left (perm-orders (length left) left left refl (Permᴰ·refl left)) in mem-length (plans job t left) (u .1)
-
-  -- Later plans are less late.
-  pub later-less : (p q : Pair) → List·Memᴰ p (plans job t left) → List·Memᴰ q (plans job t left) → p .end < q .end → q .late ≺ p .late
-  later-less p q m n h = step (decLe (up (p .late) + down (q .late)) (up (q .late) + down (p .late)))
-    where
-      step : Dec (p .late ≼ q .late) → q .late ≺ p .late
-      step (yes l) =
-          let w = unbeaten-worse p q (plans-sound job t left q n .none-beats p (plans-sound job t left p m .found)) (omega arith, l) in
-          absurd (omega (arith, w .0))
-      step (no l) = omega arith
-
   -- No lateness is below the least signed 32-bit number.
   pub late-least : Fits32 job t left → (q : Pair) → List·Memᴰ q (attained job t left) → down (q .late) ≤ up (q .late) + 2147483648
   late-least fits q m =
-      let u = pair-order a q m in
+      let u = pair-order job t left q m in
       let w = fits (u .0) (orders-perm (length left) left (u .0) refl (u .1)) .0 in
       subst (λ (z : Pair). down (z .late) ≤ up (z .late) + 2147483648) (u .2) (omega (arith, leZ→ (negsuc 2147483647) (pairOf job t (u .0) .late) (w .le)))
 
@@ -108,7 +109,7 @@ module _ {job : ℕ → Job} {t : ℕ} {left : List ℕ} (a : Plannable job t le
           let b = best-for a y order e in
           let p : Pair = pairOf job t order in
           let k = pair-kept a y order (b .whole) (b .kept) in
-          lists-more (attained job t left) y p (listFrom job t left n (predℤ (p .late))) (order-pair a order (b .whole)) k (soonest-pair a y order e)
+          lists-more (attained job t left) y p (listFrom job t left n (predℤ (p .late))) (order-pair job t left order (b .whole)) k (soonest-pair a y order e)
           (below (predℤ (p .late)) (omega (arith, k, pred-level (p .late))))
 
   pub same-from : (n : ℕ) (y : ℤ) → up y + 2147483648 < n + down y → ((order : List ℕ) → Tried left order → T (keeps job y t order)) → listFrom job t left n y ≡ plans job t left
@@ -117,7 +118,7 @@ module _ {job : ℕ → Job} {t : ℕ} {left : List ℕ} (a : Plannable job t le
       rising-unique (listFrom job t left n y) (plans job t left) (l .rise) (plans-rising job t left)
       (λ p m. plans-complete job t left p (l .sound p m .0))
       (λ p m. let s = plans-sound job t left p m in
-      let u = pair-order a p (s .found) in
+      let u = pair-order job t left p (s .found) in
       l .complete p s (subst (λ (z : Pair). z .late ≼ y) (u .2) (pair-kept a y (u .0) (u .1) (top (u .0) (u .1)))))
 
   pub top : (order : List ℕ) → Tried left order → T (keeps job (pos 2147483647) t order)

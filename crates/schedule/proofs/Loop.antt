@@ -56,7 +56,7 @@ module _ {job : ℕ → Job} {t : ℕ} {left : List ℕ} (a : Plannable job t le
   pub late-range : (y : ℤ) (order : List ℕ) → orderFor job t left y ≡ some order → (pairOf job t order .late ≼ y) × (down (pairOf job t order .late) ≤ up (pairOf job t order .late) + 2147483648)
   late-range y order e =
       let b = best-for a y order e in
-      (pair-kept a y order (b .whole) (b .kept), late-least a fits (pairOf job t order) (order-pair a order (b .whole)))
+      (pair-kept a y order (b .whole) (b .kept), late-least a fits (pairOf job t order) (order-pair job t left order (b .whole)))
 
   -- A question.
   pub from-none : (y : ℤ) → orderFor job t left y ≡ none → from job t left y ≡ []

@@ -1,6 +1,6 @@
 -- The orders of some rows: those that are tried one by one are the permutations, and whatever takes each row out once is one.
 -- Assumes nothing.
-use Prim.Native.Nat.{ℕ, zero, suc, _+_, _<_}
+use Prim.Native.Nat.{ℕ, zero, suc, _+_, _≤_, _<_}
 use native.Mathlib.Omega.{arith}
 use mathlib.Core.Bool.{Bool, true, false, cond}
 use mathlib.Core.Path.{_≡_, refl, sym, ap, _∙_, subst}
@@ -62,6 +62,11 @@ one-T false t = absurd t
 
 pub mem-count : (i : ℕ) (left : List ℕ) → List·Memᴰ i left → 0 < count i left
 mem-count i left m = omega (arith, count-without i left m i, one-T (eqb i i) (eqb-refl i))
+
+-- What stands once in a list and at its front does not stand after it.
+pub once-first : (i : ℕ) (is : List ℕ) → count i (i ∷ is) ≤ 1 → ¬ List·Memᴰ i is
+unfolding count
+once-first i is h m = omega (arith, mem-count i is m, one-T (eqb i i) (eqb-refl i))
 
 module _ {A B : Type 0} where
   flat-make : (f : A → List B) (l : List A) (a : A) (b : B) → List·Memᴰ a l → List·Memᴰ b (f a) → List·Memᴰ b (flatMap f l)

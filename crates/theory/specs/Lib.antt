@@ -3,6 +3,7 @@ pub mod Order
 pub mod FrontMove
 pub mod Picks
 pub mod First
+pub mod Arrival
 pub mod Bound
 pub mod Runs
 pub mod Ends

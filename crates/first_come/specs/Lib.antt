@@ -1,0 +1,4 @@
+pub mod FirstCome
+pub mod Working
+pub mod Days
+pub mod Promise
