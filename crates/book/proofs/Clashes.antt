@@ -16,7 +16,7 @@ use Rattle.book.specs.declared.Tested.{Tested}
 use Rattle.book.specs.declared.Tested.the-variants.{Passed, Refused}
 use Rattle.book.specs.Rows.{Contents, refused, accepted, refusedOr, any}
 use Rattle.book.specs.Pairs.{pairTests}
-use Rattle.book.specs.Book.{testedBy, readWords, placeOf}
+use Rattle.book.specs.Book.{testedBy, readWords}
 use Rattle.book.specs.Clashes.{NoneClash, Earliest, Settled, apart, clashing}
 use Rattle.book.proofs.Tests.{never}
 use Rattle.book.proofs.Scans.{pairsAt, pairs-here, pairs-on, pairs-end}

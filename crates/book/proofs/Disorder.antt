@@ -1,7 +1,6 @@
 -- Test 8 by the rows: disagreement is a clash.
 -- Assumes nothing.
 use native.Mathlib.Omega.{arith}
-use lib.Dec.{ltb}
 use borrow.Author.Tests.{le-ltb}
 use Rattle.book.specs.Refusals.{byDisorder}
 use Rattle.book.specs.Order.{tighter, disagree}

@@ -1,6 +1,6 @@
 -- The order of the rows, test 8: no two rows disagree.
 -- Rests on: Pairs.
-use Prim.Native.Nat.{ℕ, _+_}
+use Prim.Native.Nat.{_+_}
 use mathlib.Core.Bool.{Bool, _&&_, _||_}
 use mathlib.Core.List.{List}
 use lib.Dec.{ltb}

@@ -1,0 +1,3 @@
+pub mod Arrived
+pub mod Called
+pub mod Promise

@@ -173,12 +173,14 @@ pub fn row_place(book: &[u32], row: u32) -> Found
     ensures { λ r. ⌜ r ≡ placeCall firstCome (now (book .entry)) row ⌝ }
 {
     let reading = crossing::read(book);
-    book::place_among(reading.outcome, reading.table.count, row)
+    let outcome = reading.outcome;
+    book::place_among(outcome, reading.table.count, row)
 }
 
 // The four words of a row, as the part of the caller's book that holds them; empty where the call is refused.
 pub fn row_words<'a>(book: &'a [u32], row: u32) -> &'a [u32]
     ensures { λ r. ⌜ now r ≡ wordsCall firstCome (now (book .entry)) row ⌝ }
 {
-    book::words_at(book, row_place(book, row))
+    let found = row_place(book, row);
+    book::words_at(book, found)
 }

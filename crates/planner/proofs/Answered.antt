@@ -25,7 +25,6 @@ use Rattle.book.specs.Book.{tableRows}
 use Rattle.book.proofs.Readings.{GivenBy, Given}
 use Rattle.core.specs.declared.Front.{Front}
 use Rattle.core.specs.Taking.{deskThrough}
-use Rattle.core.proofs.Signs.{through-minute, followed-late}
 use Rattle.rows.specs.declared.Columns.{Columns}
 use Rattle.planner.specs.declared.Listed.the-variants as listed
 use Rattle.planner.specs.declared.Ordered.{Ordered}
@@ -38,7 +37,7 @@ use Rattle.rows.specs.Apart.{jobsOf, Apart}
 use Rattle.planner.specs.Working.{Plannable, pairAt, held, Sized}
 use Rattle.planner.proofs.CallLaws.{list-narrow, list-is, bound-is, plan-is, plan-unlisted, verdict-no, verdict-is}
 use Rattle.planner.proofs.Held.{held-length, held-at, nth-in, nth-zero, nth-out}
-use Rattle.planner.proofs.Plannings.{same-jobs, plannable, plans-rows}
+use Rattle.planner.proofs.Plannings.{desk-pair, plannable, plans-rows}
 use Rattle.planner.proofs.Promise.{promise, posted-order}
 
 -- The signed number that is raised comes back.
@@ -61,17 +60,6 @@ module _ (profile : Profile) {Rule : (ℕ → Job) → List ℕ → Type 0} (ws 
     pub may-plan : Plannable Rule c (t .count) (t .free)
     may-plan = plannable a (t .count) (t .free) (sym (g .size)) (g .book)
 
-    -- The desk after an order of at least one row has the order's pair.
-    pub order-pair : (order : List ℕ) → 1 ≤ length order → (desk : Desk) → desk ≡ deskThrough (jobsOf c) (deskAt (t .free)) order →
-        pairAt (desk .minute) (desk .worst) ≡ pairOf (job (tableRows t)) (t .free) order
-    order-pair order l desk e =
-        (λ x. pairAt (e x .minute) (e x .worst)) ∙
-        ((λ x. record {
-          end = through-minute (jobsOf c) (deskAt (t .free)) order x;
-          late = followed-late (jobsOf c) (may-plan .limits) (t .free) order l x;
-        }) ∙
-        ap (λ (jobs : ℕ → Job). pairOf jobs (t .free) order) (same-jobs a))
-
   -- A posting that passed its tests.
   module _ (posting : List ℕ) (passed : postingTests (t .count) posting ≡ tested.Passed) where
     pub passed-rows : postingTests (length (tableRows t)) posting ≡ tested.Passed
@@ -93,7 +81,7 @@ module _ (profile : Profile) {Rule : (ℕ → Job) → List ℕ → Type 0} (ws 
 
     pub posting-pair : (c : Columns) → Apart (tableRows t) c → (desk : Desk) → desk ≡ deskThrough (jobsOf c) (deskAt (t .free)) posting →
         pairAt (desk .minute) (desk .worst) ≡ pairOf (job (tableRows t)) (t .free) posting
-    posting-pair c a = order-pair c a posting (omega (arith, posting-length, g .book .some-row, g .size))
+    posting-pair c a = desk-pair a (may-plan c a .limits) (t .free) posting (omega (arith, posting-length, g .book .some-row, g .size))
 
 -- By the ordering rule: the core's list holds the plans.
 module _ (ws : List ℕ) (t : Table) (g : Given ws t) (c : Columns) (a : Apart (tableRows t) c) (f : Front) (s : Sized f) (h : held f ≡ plans (jobsOf c) (t .free) (countFrom 1 (t .count))) where

@@ -2,6 +2,7 @@
 -- Assumes nothing.
 use Prim.Native.Nat.{ℕ, zero, suc, _+_, _-_, _*_, _≤_, _<_}
 use native.Mathlib.Omega.{arith}
+use native.Mathlib.Decide.{decLe}
 use mathlib.Core.Bool.{Bool, true, false, not, cond}
 use mathlib.Core.Path.{_≡_, refl, sym, ap, _∙_, subst}
 use mathlib.Core.List.{List, [], _∷_, _++_, List·Memᴰ, List·Memᴰ·head, List·Memᴰ·tail, List·Memᴰ·not-nil, List·Memᴰ·cases-cons}
@@ -89,6 +90,19 @@ module _ (profile : Profile) (rows : List Row) (free : ℕ) (y : ℤ) (b : List 
     pub order-none : profile .orders rows free y ≡ none → orderOutcome profile rows free y b ≡ gives (ordered.Refused byUnkept 0) b
     unfolding orderOutcome
     order-none e = rw (le-ltb (length b) (length rows) h, e, orderOutcome)
+
+-- A bound matters only by the order that it gives.
+pub order-same : (profile : Profile) (rows : List Row) (free : ℕ) (y z : ℤ) (b : List ℕ) → profile .orders rows free y ≡ profile .orders rows free z →
+    orderOutcome profile rows free y b ≡ orderOutcome profile rows free z b
+order-same profile rows free y z b e = step (decLe (length rows) (length b))
+  where
+    found : length rows ≤ length b → (o : Option (List ℕ)) → profile .orders rows free y ≡ o → orderOutcome profile rows free y b ≡ orderOutcome profile rows free z b
+    found h none f = order-none profile rows free y b h f ∙ sym (order-none profile rows free z b h (sym e ∙ f))
+    found h (some order) f = order-some profile rows free y b h order f ∙ sym (order-some profile rows free z b h order (sym e ∙ f))
+
+    step : Dec (length rows ≤ length b) → orderOutcome profile rows free y b ≡ orderOutcome profile rows free z b
+    step (yes h) = found h (profile .orders rows free y) refl
+    step (no h) = order-narrow profile rows free y b (omega arith) ∙ sym (order-narrow profile rows free z b (omega arith))
 
 -- Two's complement gives a signed 32-bit number back.
 pub signed-back : (z : ℤ) → up z ≤ 2147483647 + down z → down z ≤ up z + 2147483648 → signed (complement z) ≡ z

@@ -14,12 +14,15 @@ use Rattle.schedule.specs.Desk.{pairOf, endOf}
 use Rattle.schedule.specs.Picks.{orderFor}
 use Rattle.schedule.specs.Plans.{plans}
 use Rattle.schedule.specs.Promise.{Agreeing}
-use Rattle.schedule.specs.Offset.{raised, lowered}
+use Rattle.schedule.specs.Offset.{raised, lowered, deskAt}
+use Rattle.schedule.specs.declared.Desk.{Desk}
+use Rattle.schedule.specs.Columns.{Limits}
+use Rattle.core.specs.Taking.{deskThrough}
 use Rattle.schedule.proofs.Orders.{perm-count}
 use Rattle.schedule.proofs.Numbers.{length-count}
 use Rattle.schedule.proofs.Promise.{promised}
 use Rattle.book.proofs.Tests.{never}
-use Rattle.core.proofs.Signs.{late-lowers}
+use Rattle.core.proofs.Signs.{through-minute, followed-late, late-lowers}
 use Rattle.core.proofs.Lists.{plan-lowers}
 use Rattle.book.specs.Accepted.{AcceptedBook}
 use Rattle.core.specs.declared.Front.{Front}
@@ -31,7 +34,7 @@ use Rattle.rows.specs.declared.Columns.{Columns}
 use Rattle.rows.specs.Apart.{jobsOf, Apart}
 use Rattle.planner.specs.declared.Ordered.the-variants as ordered
 use Rattle.planner.specs.Calls.{gives, written, plansOf, orderOf, orderingRule, orderOutcome}
-use Rattle.planner.specs.Working.{Plannable, pairsOf, held, Sized}
+use Rattle.planner.specs.Working.{Plannable, pairAt, pairsOf, held, Sized}
 use Rattle.planner.proofs.CallLaws.{order-narrow, order-some, order-none}
 use Rattle.planner.proofs.Held.{pairs-back}
 
@@ -55,6 +58,14 @@ module _ {rows : List Row} {c : Columns} (a : Apart rows c) where
     lengths = a .lengths;
     dues = a .dues;
   }
+
+  -- The desk after an order of at least one row has the order's pair.
+  pub desk-pair : Limits (jobsOf c) → (free : ℕ) (order : List ℕ) → 1 ≤ length order → (desk : Desk) → desk ≡ deskThrough (jobsOf c) (deskAt free) order →
+      pairAt (desk .minute) (desk .worst) ≡ pairOf (job rows) free order
+  desk-pair limits free order l desk e =
+      (λ x. pairAt (e x .minute) (e x .worst)) ∙
+      ((λ x. record { end = through-minute (jobsOf c) (deskAt free) order x; late = followed-late (jobsOf c) limits free order l x }) ∙
+      ap (λ (jobs : ℕ → Job). pairOf jobs free order) same-jobs)
 
   pub plans-rows : (n free : ℕ) → n ≡ length rows → plans (jobsOf c) free (countFrom 1 n) ≡ plansOf rows free
   plans-rows n free e = λ x. plans (same-jobs x) free (countFrom 1 (e x))

@@ -34,7 +34,7 @@ plan-more [] p = refl
 plan-more (q ∷ ps) p = ap {B = List ℕ} (λ r. q .end ∷ complement (q .late) ∷ r) (plan-more ps p)
 
 -- Two stores behind the words p of a buffer that was d.
-put-two : (p d : List ℕ) (v w : ℕ) → suc (length p) < length d →
+pub put-two : (p d : List ℕ) (v w : ℕ) → suc (length p) < length d →
     set (set (p ++ drop (length p) d) (length p) v) (suc (length p)) w ≡ (p ++ (v ∷ w ∷ [])) ++ drop (length (p ++ (v ∷ w ∷ []))) d
 put-two p [] v w h = absurd (not-suc-le-zero h)
 put-two [] (x ∷ []) v w h = absurd (not-suc-le-zero (le-of-suc-le-suc h))

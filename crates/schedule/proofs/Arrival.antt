@@ -82,6 +82,23 @@ module _ (job : ℕ → Job) where
     jobs-arrive is (s .1),
   )
 
+-- The order for a bound, by whether the order by arrival keeps it.
+module _ (job : ℕ → Job) (t : ℕ) (left : List ℕ) (y : ℤ) where
+  pub arrival-kept : leZ (pairOf job t (byArrival job left) .late) y ≡ true → arrivalFor job t left y ≡ some (byArrival job left)
+  unfolding arrivalFor
+  arrival-kept e = rw e
+
+  pub arrival-within : pairOf job t (byArrival job left) .late ≤ℤ y → arrivalFor job t left y ≡ some (byArrival job left)
+  arrival-within k = step (leZ (pairOf job t (byArrival job left) .late) y) refl (k .le)
+    where
+      step : (b : Bool) → leZ (pairOf job t (byArrival job left) .late) y ≡ b → T b → arrivalFor job t left y ≡ some (byArrival job left)
+      step true h l = arrival-kept h
+      step false h l = absurd l
+
+  pub arrival-over : leZ (pairOf job t (byArrival job left) .late) y ≡ false → arrivalFor job t left y ≡ none
+  unfolding arrivalFor
+  arrival-over e = rw e
+
 module _ (job : ℕ → Job) (t : ℕ) (left : List ℕ) (uncrossed : Uncrossed job left) (some-row : 0 < length left) where
   abbrev order₁ : List ℕ
   order₁ = byArrival job left
@@ -133,30 +150,19 @@ module _ (job : ℕ → Job) (t : ℕ) (left : List ℕ) (uncrossed : Uncrossed 
         none-beats = λ q n. not-T (beats q pair₁) (λ b. beats-worse q pair₁ b .1 (no-worse-pair q n));
       })))
 
-  -- The order for a bound, by whether the order by arrival keeps it.
-  kept-for : (y : ℤ) → pair₁ .late ≤ℤ y → arrivalFor job t left y ≡ some order₁
-  unfolding arrivalFor
-  kept-for y k = step (leZ (pair₁ .late) y) (k .le)
-    where
-      step : (b : Bool) → T b → cond b (some order₁) none ≡ some order₁
-      step true h = refl
-      step false h = absurd h
-
   for-kept : (y : ℤ) (order : List ℕ) → arrivalFor job t left y ≡ some order → (pair₁ .late ≤ℤ y) × (order₁ ≡ order)
-  unfolding arrivalFor
-  for-kept y order e = step (leZ (pair₁ .late) y) refl e
+  for-kept y order e = step (leZ (pair₁ .late) y) refl
     where
-      step : (b : Bool) → leZ (pair₁ .late) y ≡ b → cond b (some order₁) none ≡ some order → (pair₁ .late ≤ℤ y) × (order₁ ≡ order)
-      step true h e = (record { le = is-true _ h }, Option·some-injective order₁ order e)
-      step false h e = absurd (Option·none-ne-some order e)
+      step : (b : Bool) → leZ (pair₁ .late) y ≡ b → (pair₁ .late ≤ℤ y) × (order₁ ≡ order)
+      step true h = (record { le = is-true _ h }, Option·some-injective order₁ order (sym (arrival-kept job t left y h) ∙ e))
+      step false h = absurd (Option·none-ne-some order (sym (arrival-over job t left y h) ∙ e))
 
   none-for : (y : ℤ) → ¬ (pair₁ .late ≤ℤ y) → arrivalFor job t left y ≡ none
-  unfolding arrivalFor
   none-for y n = step (leZ (pair₁ .late) y) refl
     where
-      step : (b : Bool) → leZ (pair₁ .late) y ≡ b → cond b (some order₁) none ≡ none
+      step : (b : Bool) → leZ (pair₁ .late) y ≡ b → arrivalFor job t left y ≡ none
       step true h = absurd (n (record { le = is-true _ h }))
-      step false h = refl
+      step false h = arrival-over job t left y h
 
   through : {y : ℤ} (order : List ℕ) → OrderOf left order → pairOf job t order .late ≤ℤ y → pair₁ .late ≤ℤ y
   through {y} order o k = signed (omega (arith, no-worse order o .1, leZ→ (pairOf job t order .late) y (k .le)))
@@ -167,7 +173,7 @@ module _ (job : ℕ → Job) (t : ℕ) (left : List ℕ) (uncrossed : Uncrossed 
         subst (λ (o : List ℕ). OrderOf left o × (pairOf job t o .late ≤ℤ y) × ((other : List ℕ) → OrderOf left other → pairOf job t other .late ≤ℤ y → endOf job t o ≤ endOf job t other))
         (k .1) (whole₁, k .0, λ other o g. no-worse other o .0);
     unkept = λ y. (
-      λ e order o k. Option·none-ne-some order₁ (sym e ∙ kept-for y (through order o k)),
+      λ e order o k. Option·none-ne-some order₁ (sym e ∙ arrival-within job t left y (through order o k)),
       λ h. none-for y (h order₁ whole₁),
     );
     belongs = listed job t left;
@@ -176,7 +182,7 @@ module _ (job : ℕ → Job) (t : ℕ) (left : List ℕ) (uncrossed : Uncrossed 
     few = (some-plan job t left, omega (arith, ap {B = ℕ} length one-plan, some-row));
     attains = λ p m.
         let e : p ≡ pair₁ = List·Memᴰ·eq-of-singleton (subst (List·Memᴰ p) one-plan m) in
-        (order₁, kept-for (p .late) (subst (λ (q : Pair). pair₁ .late ≤ℤ q .late) (sym e) (signed (omega arith))), (whole₁, sym e));
+        (order₁, arrival-within job t left (p .late) (subst (λ (q : Pair). pair₁ .late ≤ℤ q .late) (sym e) (signed (omega arith))), (whole₁, sym e));
   }
 
 pub first-come : FirstCome

@@ -1,6 +1,6 @@
 -- `place_among` meets its contract: the place of a row that the contents have, or the refusal.
 -- Assumes nothing.
-use mathlib.Core.Path.{_≡_, sym, _∙_}
+use mathlib.Core.Path.{sym, _∙_}
 use borrow.Author.Tests.{le-ltb, lt-ltb, eq-eqb, ne-eqb}
 use borrow.Author.Needs.{needs}
 use Rattle.book.proofs.Places.{place-refused, place-unlisted, place-listed}
