@@ -3,7 +3,8 @@
 ghost use mathlib.Core.Path.{_≡_};
 ghost use Rattle.book.specs.Book.{rowPlace};
 ghost use Rattle.planner.specs.Answers.{saidNo, saidList, saidOrder, saidVerdict, saidPlace};
-ghost use Rattle.planner.specs.Calls.{orderingRule, listCall, boundCall, planCall, verdictCall};
+ghost use Rattle.planner.specs.Calls.{orderingRule, listCall, boundCall, planCall, verdictCall, placeCall};
+ghost use Rattle.first_come.specs.FirstCome.{firstCome};
 ghost use Rattle.jelvaksna.specs.Boundary.{answerOf};
 use book::Found;
 use planner::Judged;
@@ -141,4 +142,57 @@ pub extern "C" fn jelvaksna_row_place(book: &[u32], row: u32) -> Answer
     ensures { λ r. ⌜ r ≡ answerOf (saidPlace (rowPlace (now (book .entry)) row)) ⌝ }
 {
     of_place(book::row_place(book, row))
+}
+
+// First come, first due: the same calls by the profile for books of which no two rows cross.
+
+// The list: the one plan.
+#[no_mangle]
+pub extern "C" fn jelvaksna_first_come_list(book: &[u32], result: &mut [u32]) -> Answer
+    ensures { λ r. ⌜ r ≡ answerOf (saidList (listCall firstCome (now (book .entry)) (now (result .entry)) .answer)) ⌝ }
+    ensures { λ _. ⌜ now (result .exit) ≡ listCall firstCome (now (book .entry)) (now (result .entry)) .buffer ⌝ }
+{
+    of_list(first_come::list(book, result))
+}
+
+// The one plan's order, if its worst lateness is at most the bound.
+#[no_mangle]
+pub extern "C" fn jelvaksna_first_come_order_for_bound(
+    book: &[u32],
+    bound: i32,
+    result: &mut [u32],
+) -> Answer
+    ensures { λ r. ⌜ r ≡ answerOf (saidOrder (boundCall firstCome (now (book .entry)) bound (now (result .entry)) .answer)) ⌝ }
+    ensures { λ _. ⌜ now (result .exit) ≡ boundCall firstCome (now (book .entry)) bound (now (result .entry)) .buffer ⌝ }
+{
+    of_order(first_come::order_for_bound(book, bound, result))
+}
+
+// The order of plan 1, the one plan.
+#[no_mangle]
+pub extern "C" fn jelvaksna_first_come_order_of_plan(
+    book: &[u32],
+    plan: u32,
+    result: &mut [u32],
+) -> Answer
+    ensures { λ r. ⌜ r ≡ answerOf (saidOrder (planCall firstCome (now (book .entry)) plan (now (result .entry)) .answer)) ⌝ }
+    ensures { λ _. ⌜ now (result .exit) ≡ planCall firstCome (now (book .entry)) plan (now (result .entry)) .buffer ⌝ }
+{
+    of_order(first_come::order_of_plan(book, plan, result))
+}
+
+// The verdict on a posted order of row numbers.
+#[no_mangle]
+pub extern "C" fn jelvaksna_first_come_verdict(book: &[u32], posting: &[u32]) -> Answer
+    ensures { λ r. ⌜ r ≡ answerOf (saidVerdict (verdictCall firstCome (now (book .entry)) (now (posting .entry)))) ⌝ }
+{
+    of_verdict(first_come::verdict(book, posting))
+}
+
+// The place of a row's number word.
+#[no_mangle]
+pub extern "C" fn jelvaksna_first_come_row_place(book: &[u32], row: u32) -> Answer
+    ensures { λ r. ⌜ r ≡ answerOf (saidPlace (placeCall firstCome (now (book .entry)) row)) ⌝ }
+{
+    of_place(first_come::row_place(book, row))
 }

@@ -5,11 +5,10 @@ use lib.IntN.{ℤ}
 use mir.Syntax.{w32}
 use mir.ValLaws.{toZ-ofZ}
 use mathlib.Core.Path.{ap, _∙_}
-use Rattle.planner.specs.declared.Ordered.{Ordered}
-use Rattle.planner.specs.Calls.{Outcome, orderingRule, boundCall}
-use Rattle.planner.specs.Answers.{saidOrder}
-use Rattle.jelvaksna.specs.Boundary.{answerOf}
 use borrow.Author.Needs.{needs}
+use Rattle.planner.specs.Calls.{orderingRule, boundCall}
+use Rattle.planner.specs.Answers.{saidOrder}
+use Rattle.jelvaksna.proofs.Through.{through}
 use Rattle.jelvaksna.proofs.jelvaksna_order_for_bound.Statement.{statement}
 use Rattle.jelvaksna.proofs.jelvaksna_order_for_bound.Tie as tie
 
@@ -27,8 +26,8 @@ returns c =
     let o = c .before .before .before in
     let s = o .before .before .before .before in
     let a = s .args in
-    let q = o .order-for-bound .ensures ∙ ap (λ (y : ℤ). boundCall orderingRule (now (a .book)) y (now (a .result))) (toZ-ofZ w32 (a .bound) (s .fits .bound)) in
-    (c .of-order .ensures ∙ ap (λ (o : Outcome Ordered). answerOf (saidOrder (o .answer))) q, ap (λ (o : Outcome Ordered). o .buffer) q)
+    through saidOrder _ _ _ (c .of-order .ensures)
+    (o .order-for-bound .ensures ∙ ap (λ (y : ℤ). boundCall orderingRule (now (a .book)) y (now (a .result))) (toZ-ofZ w32 (a .bound) (s .fits .bound)))
 
 pub jelvaksna-order-for-bound-spec : {M : Type 1} → statement M
 jelvaksna-order-for-bound-spec = tie.close (tie.spec order-for-bound-requires of-order-requires same-length returns)

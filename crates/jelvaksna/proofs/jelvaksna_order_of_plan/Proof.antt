@@ -1,11 +1,8 @@
 -- `jelvaksna_order_of_plan` meets its contract: the call's, through the answer's fields.
 -- Assumes nothing.
-use mathlib.Core.Path.{ap, _∙_}
-use Rattle.planner.specs.declared.Ordered.{Ordered}
-use Rattle.planner.specs.Calls.{Outcome}
-use Rattle.planner.specs.Answers.{saidOrder}
-use Rattle.jelvaksna.specs.Boundary.{answerOf}
 use borrow.Author.Needs.{needs}
+use Rattle.planner.specs.Answers.{saidOrder}
+use Rattle.jelvaksna.proofs.Through.{through}
 use Rattle.jelvaksna.proofs.jelvaksna_order_of_plan.Statement.{statement}
 use Rattle.jelvaksna.proofs.jelvaksna_order_of_plan.Tie as tie
 
@@ -19,7 +16,7 @@ same-length : tie.Need-same-length
 same-length c = search needs
 
 returns : tie.Need-returns
-returns c = let q = c .before .before .before .order-of-plan .ensures in (c .of-order .ensures ∙ ap (λ (o : Outcome Ordered). answerOf (saidOrder (o .answer))) q, ap (λ (o : Outcome Ordered). o .buffer) q)
+returns c = through saidOrder _ _ _ (c .of-order .ensures) (c .before .before .before .order-of-plan .ensures)
 
 pub jelvaksna-order-of-plan-spec : {M : Type 1} → statement M
 jelvaksna-order-of-plan-spec = tie.close (tie.spec order-of-plan-requires of-order-requires same-length returns)
