@@ -1,8 +1,7 @@
 //! The planner's calls for Rust, and what they are tested with.
 //!
 //! - [`linked`]: the declarations of the archive and a safe wrapper over them (feature `archive`).
-//! - [`model`]: a second implementation of document 01 with requests L1 to L3 and the profile "first
-//!   come, first due", from these alone.
+//! - [`model`]: a second implementation of document 01 with requests L1 to L3 and L5, from these alone.
 //! - [`books`]: a seeded maker of books, sound and damaged.
 
 pub mod books;
@@ -33,8 +32,8 @@ pub mod refusal {
 /// Which books are accepted, and which plans are listed of them.
 #[derive(Clone, Copy, Debug, PartialEq, Eq)]
 pub enum Profile {
-    /// No two rows disagree; every plan.
-    Standard,
+    /// The ordering rule: no two rows disagree; every plan.
+    OrderingRule,
     /// First come, first due: no two rows cross; one plan.
     FirstCome,
 }

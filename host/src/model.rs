@@ -1,6 +1,6 @@
 //! A second opinion: document 01 with the classes of request L1, the rows as they arrive of
-//! request L2, the nearest minute of request L3 and the profile "first come, first due" as a plain
-//! program, written from these papers and from nothing else.
+//! request L2, the nearest minute of request L3 and the profile of request L5 as a plain program,
+//! written from these papers and from nothing else.
 //!
 //! It keeps their sequence of tests and their words (desk, picks, run, blocks), calculates in
 //! 64 bits, and looks for nothing faster than plain scans.
@@ -154,14 +154,14 @@ impl Day {
 
     /// Reads a book, or says which of the conditions 1 to 8 turns it down.
     pub fn read(book: &[u32]) -> Result<Day, Refusal> {
-        Day::read_as(Profile::Standard, book)
+        Day::read_as(Profile::OrderingRule, book)
     }
 
     /// Reads a book by the rule of a profile.
     pub fn read_as(profile: Profile, book: &[u32]) -> Result<Day, Refusal> {
         let (free, rows) = Day::table(book)?;
         let (number, at_odds): (u32, fn(&Row, &Row) -> bool) = match profile {
-            Profile::Standard => (DISORDER, Row::disagrees),
+            Profile::OrderingRule => (DISORDER, Row::disagrees),
             Profile::FirstCome => (CROSSED, Row::crosses),
         };
         for (i, row) in rows.iter().enumerate() {
@@ -186,7 +186,7 @@ impl Day {
     /// profile by rising release, and by rising due at one release.
     pub fn is_sorted(&self) -> bool {
         self.rows.is_sorted_by_key(|row| match self.profile {
-            Profile::Standard => (row.due, row.reach()),
+            Profile::OrderingRule => (row.due, row.reach()),
             Profile::FirstCome => (row.release, row.due),
         })
     }
@@ -308,7 +308,7 @@ impl<'d> Desk<'d> {
 impl Day {
     fn desk_for_bound(&self, bound: i32) -> Option<Desk<'_>> {
         match self.profile {
-            Profile::Standard => self.desk_by_blocks(bound.into()),
+            Profile::OrderingRule => self.desk_by_blocks(bound.into()),
             Profile::FirstCome => Some(self.desk_first_come()).filter(|d| d.pair().late <= bound),
         }
     }

@@ -16,7 +16,7 @@ fn books(
     effort: Effort,
     make: impl FnMut(&mut Rng, u64) -> Vec<u32>,
 ) {
-    each_call(Profile::Standard, test, count, effort, make, compare);
+    each_call(Profile::OrderingRule, test, count, effort, make, compare);
 }
 
 /// All the calls that suit one book.

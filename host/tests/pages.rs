@@ -37,7 +37,7 @@ fn short(profile: Profile, test: &'static str, make: Maker) {
 
 #[test]
 fn short_books() {
-    short(Profile::Standard, "short books", books::accepted);
+    short(Profile::OrderingRule, "short books", books::accepted);
     short(Profile::FirstCome, "first come, short", books::first_come);
 }
 
@@ -58,7 +58,7 @@ fn long(profile: Profile, test: &'static str, make: Maker) {
 
 #[test]
 fn long_books() {
-    long(Profile::Standard, "long books", |rng, rows| {
+    long(Profile::OrderingRule, "long books", |rng, rows| {
         books::typical_day(rng, rows).varied(rng)
     });
     long(Profile::FirstCome, "first come, long", books::first_come);
@@ -70,8 +70,8 @@ fn every_cut() {
     let day = books::several_plans(&mut Rng::new(3), 12);
     let come = books::steady_day(&mut Rng::new(3), 12);
     for (profile, test, day) in [
-        (Profile::Standard, "cuts", day.clone()),
-        (Profile::Standard, "cuts in a class", day.of_class(2)),
+        (Profile::OrderingRule, "cuts", day.clone()),
+        (Profile::OrderingRule, "cuts in a class", day.of_class(2)),
         (Profile::FirstCome, "first come, cuts", come),
     ] {
         let book = day.words();

@@ -531,7 +531,7 @@ pub fn read(book: &[u32]) -> Reading
     all
 }
 
-// The place of a row's number word, rows counted from 1, or the refusal: from the outcome of a reading and its count of rows.
+// Where a row stands, from the outcome of a reading and its count of rows.
 pub fn place_among(outcome: Tested, count: usize, row: u32) -> Found
     ensures { λ r. ⌜ PlaceAmong outcome count row r ⌝ }
 {
@@ -550,7 +550,7 @@ pub fn place_among(outcome: Tested, count: usize, row: u32) -> Found
     Found::At(place)
 }
 
-// The same, from the book.
+// The place of a row's number word, rows counted from 1, or the refusal.
 pub fn row_place(book: &[u32], row: u32) -> Found
     ensures { λ r. ⌜ r ≡ rowPlace (now (book .entry)) row ⌝ }
 {
@@ -559,7 +559,7 @@ pub fn row_place(book: &[u32], row: u32) -> Found
     place_among(outcome, all.table.count, row)
 }
 
-// The four words at a place, as the part of the caller's book that holds them; empty where the call is refused.
+// The four words of a row that was looked for, where it was found.
 pub fn words_at<'a>(book: &'a [u32], found: Found) -> &'a [u32]
     requires { ⌜ WordsInside found (now book) ⌝ }
     ensures { λ r. ⌜ now r ≡ wordsAt found (now (book .entry)) ⌝ }
@@ -573,7 +573,7 @@ pub fn words_at<'a>(book: &'a [u32], found: Found) -> &'a [u32]
     }
 }
 
-// The four words of a row, or none.
+// The four words of a row, as the part of the caller's book that holds them; empty where the call is refused.
 pub fn row_words<'a>(book: &'a [u32], row: u32) -> &'a [u32]
     ensures { λ r. ⌜ now r ≡ rowWords (now (book .entry)) row ⌝ }
 {

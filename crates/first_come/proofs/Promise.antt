@@ -1,19 +1,24 @@
 -- The three properties of the profile's calls hold.
 -- Assumes nothing.
-use Prim.Native.Nat.{ℕ, _≤_}
+use Prim.Native.Nat.{ℕ, _*_, _≤_}
 use native.Mathlib.Omega.{arith}
-use mathlib.Core.Path.{_≡_, sym}
+use native.Mathlib.Decide.{decLe}
+use mathlib.Core.Path.{_≡_, sym, _∙_}
 use mathlib.Core.List.{List}
 use mathlib.Core.Logic.{_⊎_, inl, inr}
+use lib.ListN.{length}
 use Rattle.schedule.specs.declared.Row.{Row}
 use Rattle.schedule.specs.Rows.{job, allRows}
 use Rattle.schedule.specs.Arrival.{Uncrossed, ArrivalPromise}
 use Rattle.schedule.proofs.Arrival.{first-come}
 use Rattle.book.specs.Accepted.{AcceptedBook}
-use Rattle.book.specs.Rows.{refused}
+use Rattle.book.specs.Rows.{refused, accepted}
+use Rattle.book.specs.Book.{readBook}
 use Rattle.crossing.specs.Crossing.{readUncrossed}
 use Rattle.crossing.proofs.Crossing.{crossing, uncrossed-book, crossed-numbered}
-use Rattle.planner.proofs.Promise.{Sound, Sounds, some-rows, in-limits, kept}
+use Rattle.planner.specs.Calls.{orderingRule, listCall}
+use Rattle.planner.proofs.CallLaws.{list-is, list-narrow}
+use Rattle.planner.proofs.Promise.{Sound, Sounds, some-rows, in-limits, list-front, kept}
 use Rattle.planner.proofs.Memory.{memory-kept}
 use Rattle.first_come.specs.FirstCome.{firstCome}
 use Rattle.first_come.specs.Promise.{Told, OnePlan, Property1, Property2, Property3}
@@ -43,9 +48,21 @@ numbered book n p e = go (crossed-numbered book n p e)
 pub lent-memory : Property1
 lent-memory = memory-kept firstCome Told (λ n h g. (omega arith, omega arith, λ z. omega arith)) uncrossed-sounds numbered
 
--- Property 2.
+-- Property 2. Both lists are the list by its definition.
+same-list : (book : List ℕ) (free : ℕ) (rows : List Row) → readUncrossed book ≡ accepted free rows → readBook book ≡ accepted free rows →
+    (b : List ℕ) → listCall firstCome book b ≡ listCall orderingRule book b
+same-list book free rows reads agreed b = step (decLe (2 * length rows) (length b))
+  where
+    step : Dec (2 * length rows ≤ length b) → listCall firstCome book b ≡ listCall orderingRule book b
+    step (yes h) = list-front firstCome book free rows reads (uncrossed-sounds book free rows reads) b h ∙ sym (list-is orderingRule book free rows agreed b h)
+    step (no h) = list-narrow firstCome book free rows reads b (omega arith) ∙ sym (list-narrow orderingRule book free rows agreed b (omega arith))
+
 pub definitions-hold : Property2
-definitions-hold = record { accepts = λ book free rows reads. only-plan (uncrossed-book book free rows reads); crossing = crossing }
+definitions-hold = record {
+  accepts = λ book free rows reads. only-plan (uncrossed-book book free rows reads);
+  crossing = crossing;
+  same-list = same-list;
+}
 
 -- Property 3.
 pub calls-keep-promise : Property3

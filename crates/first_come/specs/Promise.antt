@@ -11,8 +11,9 @@ use Rattle.schedule.specs.declared.Row.{Row}
 use Rattle.schedule.specs.Rows.{job, allRows}
 use Rattle.schedule.specs.Desk.{OrderOf, pairOf}
 use Rattle.book.specs.Rows.{accepted}
+use Rattle.book.specs.Book.{readBook}
 use Rattle.crossing.specs.Crossing.{Crossing, readUncrossed}
-use Rattle.planner.specs.Calls.{plansOf}
+use Rattle.planner.specs.Calls.{plansOf, orderingRule, listCall}
 use Rattle.planner.specs.Promise.{BookAccepted, MemoryKept, CoverKept}
 use Rattle.first_come.specs.FirstCome.{arrivalOrder, arrivalPlan, firstCome}
 
@@ -35,10 +36,13 @@ pub record OnePlan (free : ℕ) (rows : List Row) : Type 0 where
   -- so the list by its definition, the pairs that some order attains and no order beats, is its pair alone.
   pub one-plan : plansOf rows free ≡ arrivalPlan rows free ∷ []
 
--- And a book that passes tests 1 to 7 is refused 13 exactly if two rows cross, at the number word of the earliest row that crosses a row above it.
 pub record DefinitionsHold : Type 0 where
   pub accepts : (book : List ℕ) (free : ℕ) (rows : List Row) → readUncrossed book ≡ accepted free rows → OnePlan free rows
+  -- A book that passes tests 1 to 7 is refused 13 exactly if two rows cross, at the number word of the earliest row that crosses a row above it.
   pub crossing : Crossing
+  -- Where the ordering rule accepts the book too, its list is the same.
+  pub same-list : (book : List ℕ) (free : ℕ) (rows : List Row) → readUncrossed book ≡ accepted free rows → readBook book ≡ accepted free rows →
+      (b : List ℕ) → listCall firstCome book b ≡ listCall orderingRule book b
 
 abbrev pub Property2 : Type 0
 Property2 = DefinitionsHold

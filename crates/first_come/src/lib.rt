@@ -21,6 +21,9 @@ use planner::Ordered;
 use rows::Columns;
 use schedule::Desk;
 
+// The largest bound, raised: no lateness is above it.
+const LARGEST: u32 = 4_294_967_295;
+
 // The one plan: the rows by arrival in the first places of its order, and the desk after them.
 struct Plan {
     order: [u32; Desk::ROWS],
@@ -126,7 +129,7 @@ pub fn order_for_bound(book: &[u32], bound: i32, result: &mut [u32]) -> Ordered
     )
 }
 
-// The order of a listed plan by its number: 1 is the one plan's. No lateness is above the bound that is asked for.
+// The order of a listed plan by its number: 1 is the one plan's.
 pub fn order_of_plan(book: &[u32], plan: u32, result: &mut [u32]) -> Ordered
     ensures { λ r. ⌜ gives r (now (result .exit)) ≡ planCall firstCome (now (book .entry)) plan (now (result .entry)) ⌝ }
 {
@@ -143,7 +146,7 @@ pub fn order_of_plan(book: &[u32], plan: u32, result: &mut [u32]) -> Ordered
         rows::columns_in(table),
         table.count,
         table.free,
-        4_294_967_295,
+        LARGEST,
         result,
     )
 }

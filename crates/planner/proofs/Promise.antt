@@ -93,7 +93,7 @@ module _ (rows : List Row) where
 
 module _ (profile : Profile) (book : List ℕ) (free : ℕ) (rows : List Row) (reads : profile .reads book ≡ accepted free rows) (s : Sound profile free rows) where
   -- The calls by the list's definition.
-  list-front : (b : List ℕ) → 2 * length rows ≤ length b → listCall profile book b ≡ gives (listed.Plans (length (plansOf rows free))) (written (planWords (plansOf rows free)) b)
+  pub list-front : (b : List ℕ) → 2 * length rows ≤ length b → listCall profile book b ≡ gives (listed.Plans (length (plansOf rows free))) (written (planWords (plansOf rows free)) b)
   list-front b h = list-is profile book free rows reads b h ∙ ap (λ (ps : List Pair). gives (listed.Plans (length ps)) (written (planWords ps) b)) (s .front)
 
   plan-front : (k : ℕ) (p : Pair) (c : List ℕ) → nth (plansOf rows free) k ≡ some p → planCall profile book k c ≡ orderOutcome profile rows free (p .late) c

@@ -1,4 +1,4 @@
-// The calls offered to a bureau. Each is lent a book, has no `requires`, and its contract gives its whole outcome: the answer, and every
+// The calls offered to a bureau, by the ordering rule. Each is lent a book, has no `requires`, and its contract gives its whole outcome: the answer, and every
 // word of the result buffer at exit.
 ghost use mathlib.Core.Path.{_≡_};
 ghost use mathlib.Core.Bool.{false, _||_};

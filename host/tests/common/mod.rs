@@ -50,7 +50,7 @@ impl Call {
             };
         }
         match profile {
-            Profile::Standard => answer!(standard),
+            Profile::OrderingRule => answer!(standard),
             Profile::FirstCome => answer!(first_come),
         }
     }
@@ -113,7 +113,7 @@ pub struct Case {
 
 impl Case {
     pub fn new(test: &'static str, case: u64) -> Self {
-        Case::of(Profile::Standard, test, case)
+        Case::of(Profile::OrderingRule, test, case)
     }
 
     pub fn of(profile: Profile, test: &'static str, case: u64) -> Self {
