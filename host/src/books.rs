@@ -8,7 +8,7 @@
 //! disagree.
 
 use crate::model::{length, MARGINS, MAX_ROWS};
-use crate::word;
+use crate::{word, Pair};
 use std::ops::Range;
 
 /// The seed of a test run: `JELVAKSNA_SEED` (decimal, or hexadecimal after 0x), or a fixed one.
@@ -678,6 +678,23 @@ fn one_class(rng: &mut Rng, rows: usize) -> Draft {
     }
     day.number(rng);
     day.of_class(rng.below(MARGINS.len()) as u32)
+}
+
+/// Days of the latest end and lateness that a book can have, and of the earliest work, with the pair
+/// of their one plan in either profile.
+pub fn at_the_limits() -> [(Draft, Pair); 2] {
+    let late: Vec<_> = (0..256).map(|i| (i, 10_000_000, 2_000, 0)).collect();
+    let pair = |end, late| Pair { end, late };
+    [
+        (
+            Draft::of(10_000_000, 4, &late),
+            pair(17_680_000, 17_680_000),
+        ),
+        (
+            Draft::of(0, 60, &[(0, 0, 1, 20_000_000)]),
+            pair(1, -19_999_999),
+        ),
+    ]
 }
 
 /// A sorted day of which no two rows cross and no two disagree either.

@@ -97,6 +97,20 @@ fn due_word(book: &[u32], place: usize, due: u32, from: u32, to: u32) -> Result<
     Ok(value(word) as i64)
 }
 
+/// Refuses the earliest row that is at odds with any row above it.
+fn pair_test(
+    rows: &[Row],
+    number: u32,
+    at_odds: impl Fn(&Row, &Row) -> bool,
+) -> Result<(), Refusal> {
+    for (i, row) in rows.iter().enumerate() {
+        if rows[..i].iter().any(|above| at_odds(row, above)) {
+            return refuse(number, place_of_row(i + 1));
+        }
+    }
+    Ok(())
+}
+
 impl Day {
     /// The desk's free minute and the rows, or which of the conditions 1 to 7 turns the book down.
     fn table(book: &[u32]) -> Result<(i64, Vec<Row>), Refusal> {
@@ -160,14 +174,9 @@ impl Day {
     /// Reads a book by the rule of a profile.
     pub fn read_as(profile: Profile, book: &[u32]) -> Result<Day, Refusal> {
         let (free, rows) = Day::table(book)?;
-        let (number, at_odds): (u32, fn(&Row, &Row) -> bool) = match profile {
-            Profile::OrderingRule => (DISORDER, Row::disagrees),
-            Profile::FirstCome => (CROSSED, Row::crosses),
-        };
-        for (i, row) in rows.iter().enumerate() {
-            if rows[..i].iter().any(|above| at_odds(row, above)) {
-                return refuse(number, place_of_row(i + 1));
-            }
+        match profile {
+            Profile::OrderingRule => pair_test(&rows, DISORDER, Row::disagrees)?,
+            Profile::FirstCome => pair_test(&rows, CROSSED, Row::crosses)?,
         }
         Ok(Day {
             profile,

@@ -218,14 +218,9 @@ fn every_number() {
 /// The latest end and lateness that a book can have, and the earliest work.
 #[test]
 fn limits() {
-    let late: Vec<_> = (0..256).map(|i| (i, 10_000_000, 2_000, 0)).collect();
-    let days = [
-        (Draft::of(10_000_000, 4, &late), (17_680_000, 17_680_000)),
-        (Draft::of(0, 60, &[(0, 0, 1, 20_000_000)]), (1, -19_999_999)),
-    ];
-    for (i, (draft, (end, late))) in days.into_iter().enumerate() {
+    for (i, (draft, pair)) in books::at_the_limits().into_iter().enumerate() {
         let book = draft.words();
-        assert_eq!(read(&book).unwrap().list(), [Pair { end, late }]);
+        assert_eq!(read(&book).unwrap().list(), [pair]);
         compare_all(case("first come, limits", i as u64), &book, Effort::All);
     }
 }
