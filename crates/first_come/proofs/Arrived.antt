@@ -1,10 +1,10 @@
 -- The one plan as the code holds it: its order and its pair are those of the rows by arrival.
 -- Assumes nothing.
-use Prim.Native.Nat.{ℕ, zero, suc, _≤_, _<_}
+use Prim.Native.Nat.{ℕ, _≤_}
 use native.Mathlib.Omega.{arith}
 use native.Mathlib.Decide.{decLe}
 use mathlib.Core.Path.{_≡_, sym, ap, _∙_}
-use mathlib.Core.List.{List, [], _∷_, _++_}
+use mathlib.Core.List.{List, _++_}
 use lib.ListN.{length, take, drop, getD, List·getD-eq-default}
 use lib.Seq.{length-take-le, getD-take}
 use Rattle.schedule.specs.declared.Desk.{Desk}
@@ -16,7 +16,6 @@ use Rattle.core.specs.Taking.{deskThrough}
 use Rattle.rows.specs.declared.Columns.{Columns}
 use Rattle.rows.specs.Apart.{jobsOf}
 use Rattle.planner.specs.Calls.{written}
-use Rattle.first_come.specs.declared.Plan.{Plan}
 use Rattle.first_come.specs.Working.{Arrived}
 
 -- The first n places of an order, written to the front of a buffer.

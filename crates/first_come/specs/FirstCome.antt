@@ -2,7 +2,6 @@
 -- Its calls are those of Calls in the planner's specs, by this profile. Rests on: the schedule's Arrival, the crossing reader, the planner's Calls.
 use Prim.Native.Nat.{ℕ}
 use mathlib.Core.List.{List, [], _∷_}
-use lib.IntN.{ℤ}
 use Rattle.schedule.specs.declared.Row.{Row}
 use Rattle.schedule.specs.Rows.{job, allRows}
 use Rattle.schedule.specs.Desk.{Pair, pairOf}

@@ -1,5 +1,5 @@
 // The calls offered to a bureau, by the ordering rule. Each is lent a book, has no `requires`, and its contract gives its whole outcome: the answer, and every
-// word of the result buffer at exit.
+// word of the result buffer at exit. Functions that are `pub` and not calls serve the other profile.
 ghost use mathlib.Core.Path.{_≡_};
 ghost use mathlib.Core.Bool.{false, _||_};
 ghost use mathlib.Core.List.{List, []};
