@@ -339,15 +339,8 @@ fn within_limits(rng: &mut Rng, rows: usize) -> Draft {
 /// A day of two rows and more that is refused for disorder alone: two rows disagree, and in one day
 /// of two (from four rows on) two others do. Unsorted, they may stand far apart.
 pub fn disagreeing(rng: &mut Rng, rows: usize) -> Draft {
-    let mut day = within_limits(rng, rows).with_classes(rng);
-    let half = rows / 2;
-    if half > 1 && rng.one_in(2) {
-        day.set_at_odds(rng, 0..half);
-        day.set_at_odds(rng, half..rows);
-    } else {
-        day.set_at_odds(rng, 0..rows);
-    }
-    day.arriving(rng)
+    let day = within_limits(rng, rows).with_classes(rng);
+    day.upset(rng, Draft::set_at_odds).arriving(rng)
 }
 
 /// Number of rows of a short, middling or long day.
@@ -604,15 +597,7 @@ pub fn first_come(rng: &mut Rng, rows: usize) -> Draft {
 /// A day that is refused for crossing alone: two rows of it cross, and in one day of two (from four
 /// rows on) two others do. Unsorted, they may stand far apart.
 pub fn crossing(rng: &mut Rng, rows: usize) -> Draft {
-    let mut day = rising(rng, rows);
-    let half = rows / 2;
-    if half > 1 && rng.one_in(2) {
-        day.cross(rng, 0..half);
-        day.cross(rng, half..rows);
-    } else {
-        day.cross(rng, 0..rows);
-    }
-    day.arriving(rng)
+    rising(rng, rows).upset(rng, Draft::cross).arriving(rng)
 }
 
 /// A sorted day with room for later releases and dues.
@@ -749,6 +734,19 @@ pub fn steady_day(rng: &mut Rng, rows: usize) -> Draft {
 }
 
 impl Draft {
+    /// Makes two rows clash and, in one day of two from four rows on, two others.
+    fn upset(mut self, rng: &mut Rng, clash: fn(&mut Draft, &mut Rng, Range<usize>)) -> Self {
+        let rows = self.rows.len();
+        let half = rows / 2;
+        if half > 1 && rng.one_in(2) {
+            clash(&mut self, rng, 0..half);
+            clash(&mut self, rng, half..rows);
+        } else {
+            clash(&mut self, rng, 0..rows);
+        }
+        self
+    }
+
     /// Gives the last row a class, if it is then due no sooner than before: when.
     fn class_last(&mut self, class: u32) -> Option<i64> {
         let row = self.rows.last()?;

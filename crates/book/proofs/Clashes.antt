@@ -21,13 +21,6 @@ use Rattle.book.specs.Clashes.{NoneClash, Earliest, Settled, apart, clas
 use Rattle.book.proofs.Tests.{never}
 use Rattle.book.proofs.Scans.{pairsAt, pairs-here, pairs-on, pairs-end}
 
--- Either of two ways, in either order.
-pub or-swap : (a b : Bool) → (a || b) ≡ (b || a)
-or-swap true true = refl
-or-swap true false = refl
-or-swap false true = refl
-or-swap false false = refl
-
 -- An entry of a list that passes a test.
 record Found {A : Type 0} (test : A → Bool) (xs : List A) (none : A) : Type 0 where
   at : ℕ

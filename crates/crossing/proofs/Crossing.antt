@@ -2,8 +2,8 @@
 -- Assumes nothing.
 use Prim.Native.Nat.{ℕ, _≤_, _<_}
 use native.Mathlib.Omega.{arith}
-use mathlib.Core.Bool.{Bool, true, false, _&&_}
-use mathlib.Core.Path.{_≡_, refl, _∙_}
+use mathlib.Core.Bool.{false, _&&_, and-comm, or-comm}
+use mathlib.Core.Path.{_≡_, _∙_}
 use mathlib.Core.List.{List}
 use mathlib.Core.Logic.{_⊎_}
 use lib.Dec.{ltb}
@@ -24,7 +24,7 @@ use Rattle.book.proofs.Tests.{and-then}
 use Rattle.book.proofs.Signed.{ltb-same}
 use Rattle.book.proofs.Columns.{ClashesBy}
 use Rattle.book.proofs.Whole.{tested-contents, tested-passed}
-use Rattle.book.proofs.Clashes.{or-swap, Mutual, passed-none, settled}
+use Rattle.book.proofs.Clashes.{Mutual, passed-none, settled}
 use Rattle.book.proofs.Accepted.{accepted-by}
 use Rattle.book.proofs.Readings.{GivenBy, given-by, turned-by}
 use Rattle.book.proofs.Numbered.{pairs-numbered}
@@ -33,26 +33,20 @@ use Rattle.crossing.specs.Crossing.{outlasts, cross, crossTests, readUnc
 -- To cross goes both ways, and no row crosses itself.
 pub cross-mutual : Mutual cross
 unfolding cross outlasts
-cross-mutual = record { swap = λ r s. or-swap (outlasts r s) (outlasts s r); self = λ r. rw (le-ltb (r .release) (r .release) (omega arith)) }
+cross-mutual = record { swap = λ r s. or-comm (outlasts r s) (outlasts s r); self = λ r. rw (le-ltb (r .release) (r .release) (omega arith)) }
 
 -- Release slacks compare the other way round than releases do.
-and-swap : (a b : Bool) → (a && b) ≡ (b && a)
-and-swap true true = refl
-and-swap true false = refl
-and-swap false true = refl
-and-swap false false = refl
-
 abbrev pub slack : Row → ℕ
 slack r = releaseSlack (r .release)
 
 slack-outlasts : (r s : Row) → Limited r → Limited s → outlasts r s ≡ (ltb (s .due) (r .due) && ltb (slack s) (slack r))
 unfolding outlasts
 slack-outlasts r s h k =
-    rw (ltb-same (r .release) (s .release) (slack s) (slack r) (λ l. omega arith) (λ l. omega arith)) (and-swap (ltb (slack s) (slack r)) (ltb (s .due) (r .due)))
+    rw (ltb-same (r .release) (s .release) (slack s) (slack r) (λ l. omega arith) (λ l. omega arith)) (and-comm (ltb (slack s) (slack r)) (ltb (s .due) (r .due)))
 
 pub cross-by : ClashesBy cross slack
 unfolding cross
-cross-by r s h k = or-swap (outlasts r s) (outlasts s r) ∙ rw (slack-outlasts s r k h, slack-outlasts r s h k)
+cross-by r s h k = or-comm (outlasts r s) (outlasts s r) ∙ rw (slack-outlasts s r k h, slack-outlasts r s h k)
 
 pub crossing : Crossing
 unfolding readUncrossed

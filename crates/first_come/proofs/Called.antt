@@ -38,7 +38,7 @@ use Rattle.planner.specs.declared.Judged.{Judged}
 use Rattle.planner.specs.declared.Judged.the-variants as judged
 use Rattle.planner.specs.Calls.{Outcome, gives, written, complement, planWords, nth, judgedOf, orderOutcome, listCall, planCall, verdictCall}
 use Rattle.planner.specs.Working.{Plannable, pairAt}
-use Rattle.planner.proofs.CallLaws.{list-is, plan-is, plan-unlisted, verdict-is, order-narrow, order-some, order-none, order-same}
+use Rattle.planner.proofs.CallLaws.{list-is, plan-is, plan-unlisted, verdict-is, order-some, order-none, order-same}
 use Rattle.planner.specs.Posting.{postingTests}
 use Rattle.planner.proofs.Plannings.{same-jobs, desk-pair}
 use Rattle.planner.proofs.Promise.{in-limits}
@@ -76,9 +76,6 @@ module _ (c : Columns) (n free : ℕ) (p : Plannable Uncrossed c n free) {rows :
         (λ x. gives (ordered.Pair (plan-pair x .end) (plan-pair x .late)) ((w ∙ ap (λ (o : List ℕ). written o b) (r .rows ∙ arrived-rows)) x)) ∙
         sym (order-some firstCome rows free (lowered bound) b (omega arith) (arrivalOrder rows)
         (arrival-kept (job rows) free (allRows rows) (lowered bound) (against bound ∙ le-leb (plan .desk .worst) bound h)))
-
-pub order-short : (n free : ℕ) (rows : List Row) → n ≡ length rows → (y : ℤ) (b : List ℕ) → length b < n → gives (ordered.Refused 9 0) b ≡ orderOutcome firstCome rows free y b
-order-short n free rows e y b h = sym (order-narrow firstCome rows free y b (omega arith))
 
 -- A posting's pair against the one plan.
 module _ (p q : Pair) (late : ℤ) (y : late ≡ q .late) where

@@ -1,6 +1,6 @@
 -- From columns to rows: what the core answers for the columns of a table is what the definitions say of its rows.
 -- Assumes nothing.
-use Prim.Native.Nat.{ℕ, _≤_, _<_}
+use Prim.Native.Nat.{ℕ, _≤_}
 use native.Mathlib.Omega.{arith}
 use mathlib.Core.Path.{_≡_, refl, sym, ap, _∙_, subst}
 use mathlib.Core.List.{List, _++_}
@@ -35,7 +35,7 @@ use Rattle.rows.specs.Apart.{jobsOf, Apart}
 use Rattle.planner.specs.declared.Ordered.the-variants as ordered
 use Rattle.planner.specs.Calls.{gives, written, plansOf, orderOf, orderingRule, orderOutcome}
 use Rattle.planner.specs.Working.{Plannable, pairAt, pairsOf, held, Sized}
-use Rattle.planner.proofs.CallLaws.{order-narrow, order-some, order-none}
+use Rattle.planner.proofs.CallLaws.{order-some, order-none}
 use Rattle.planner.proofs.Held.{pairs-back}
 
 -- The columns of a table of an accepted book are plannable.
@@ -83,9 +83,6 @@ module _ (c : Columns) (n free : ℕ) (p : Plannable Agreeing c n free) where
 
   -- The order that the core writes is the one for the bound.
   module _ {rows : List Row} (a : Apart rows c) (e : n ≡ length rows) (bound : ℕ) (b : List ℕ) where
-    pub order-short : length b < n → gives (ordered.Refused 9 0) b ≡ orderOutcome orderingRule rows free (lowered bound) b
-    order-short h = sym (order-narrow orderingRule rows free (lowered bound) b (omega arith))
-
     module _ (wide : n ≤ length b) (answer : Planned) (after : List ℕ) (r : CoreOrdered (jobsOf c) n free bound b answer after) where
       unkept-by : (o : Option (List ℕ)) → orderFor (jobsOf c) free (countFrom 1 n) (lowered bound) ≡ o → plannedOf (jobsOf c) free o ≡ Unkept → gives (ordered.Refused 12 0) (writtenOf o b) ≡ orderOutcome orderingRule rows free (lowered bound) b
       unfolding plannedOf writtenOf

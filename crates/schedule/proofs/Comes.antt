@@ -27,9 +27,6 @@ module _ (job : ℕ → Job) where
     row-comes : job i .release ≡ job j .release → job i .due ≡ job j .due → i ≤ j → Comes i j
     row-comes r d l = record { by-release = omega arith; by-due = λ h. omega arith; by-row = λ h g. l }
 
-  pub comes-refl : (i : ℕ) → Comes i i
-  comes-refl i = row-comes refl refl (omega arith)
-
   pub comes-trans : {i j k : ℕ} → Comes i j → Comes j k → Comes i k
   comes-trans {i} {j} {k} a b = record {
     by-release = omega (arith, a .by-release, b .by-release);

@@ -1,19 +1,21 @@
 -- `order_into` meets its contract: too short a buffer, then a lateness above the bound, then the one plan.
 -- Assumes nothing.
 use native.Mathlib.Omega.{arith}
-use mathlib.Core.Path.{ap, _∙_}
+use mathlib.Core.Path.{sym, ap, _∙_}
 use lib.IntN.{ℤ}
 use borrow.Author.Needs.{needs}
 use Rattle.schedule.specs.Offset.{lowered}
 use Rattle.schedule.proofs.Words.{lowered-word}
 use Rattle.planner.specs.declared.Ordered.the-variants as ordered
 use Rattle.planner.specs.Calls.{gives}
-use Rattle.first_come.proofs.Called.{order-short, order-over, order-kept}
+use Rattle.planner.proofs.CallLaws.{order-narrow}
+use Rattle.first_come.specs.FirstCome.{firstCome}
+use Rattle.first_come.proofs.Called.{order-over, order-kept}
 use Rattle.first_come.proofs.order_into.Statement.{statement}
 use Rattle.first_come.proofs.order_into.Tie as tie
 
 returns : tie.Need-returns
-returns c = λ rows a e. let b = c .before .before in order-short (b .args .n) (b .args .free) rows e (lowered (b .args .bound)) (b .args .result .now) (c .if1 .taken)
+returns c = λ rows a e. let b = c .before .before in sym (order-narrow firstCome rows (b .args .free) (lowered (b .args .bound)) (b .args .result .now) (omega (arith, e, c .if1 .taken)))
 
 plan-of-requires : tie.Need-plan-of-requires
 plan-of-requires c κs = search needs

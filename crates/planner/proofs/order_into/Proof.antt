@@ -1,18 +1,20 @@
 -- `order_into` meets its contract: too short a buffer, then what the core answers.
 -- Assumes nothing.
 use native.Mathlib.Omega.{arith}
-use mathlib.Core.Path.{ap, _∙_}
+use mathlib.Core.Path.{sym, ap, _∙_}
 use lib.IntN.{ℤ}
 use borrow.Author.Needs.{needs}
+use Rattle.schedule.specs.Offset.{lowered}
 use Rattle.schedule.proofs.Words.{lowered-word}
 use Rattle.planner.specs.declared.Ordered.the-variants as ordered
-use Rattle.planner.specs.Calls.{gives}
-use Rattle.planner.proofs.Plannings.{order-short, order-unkept, order-kept}
+use Rattle.planner.specs.Calls.{gives, orderingRule}
+use Rattle.planner.proofs.CallLaws.{order-narrow}
+use Rattle.planner.proofs.Plannings.{order-unkept, order-kept}
 use Rattle.planner.proofs.order_into.Statement.{statement}
 use Rattle.planner.proofs.order_into.Tie as tie
 
 returns : tie.Need-returns
-returns c = λ rows a e. let b = c .before .before in order-short (b .args .c) (b .args .n) (b .args .free) (b .pre) a e (b .args .bound) (b .args .result .now) (c .if1 .taken)
+returns c = λ rows a e. let b = c .before .before in sym (order-narrow orderingRule rows (b .args .free) (lowered (b .args .bound)) (b .args .result .now) (omega (arith, e, c .if1 .taken)))
 
 order-for-requires : tie.Need-order-for-requires
 order-for-requires c κs =
