@@ -1,6 +1,6 @@
 -- The rows of a posting, followed one after another.
 -- Assumes nothing.
-use Prim.Native.Nat.{ℕ, _+_, _*_, _≤_, _<_}
+use Prim.Native.Nat.{ℕ, _+_, _-_, _*_, _≤_, _<_}
 use native.Mathlib.Omega.{arith}
 use native.Mathlib.Numerals.{add-one}
 use mathlib.Core.Path.{_≡_, sym, ap, _∙_}
@@ -8,6 +8,7 @@ use mathlib.Core.List.{List}
 use lib.ListN.{length, getD, drop}
 use lib.Seq.{drop-cons, drop-length}
 use Rattle.theory.specs.Jobs.{Job, finish}
+use Rattle.schedule.specs.Limits.{EndsInTime, latestRaised, mostRows}
 use Rattle.schedule.specs.declared.Desk.{Desk}
 use Rattle.schedule.specs.Offset.{deskAt, deskAfter}
 use Rattle.schedule.specs.Columns.{Limits}
@@ -19,13 +20,15 @@ module _ (job : ℕ → Job) (free : ℕ) (posting : List ℕ) where
   -- What the loop keeps: from here the rest of the posting leads where all of it leads from the start.
   pub record Following (desk : Desk) (k : ℕ) : Type 0 where
     pub past : k ≤ length posting
-    pub minutes : desk .minute ≤ 10000000 + 30000 * k
-    pub lates : desk .worst ≤ 2157483648 + 30000 * k
+    pub few : length posting ≤ mostRows
+    pub minutes : EndsInTime (desk .minute) (length posting - k)
+    pub lates : desk .worst ≤ latestRaised
     pub same : deskThrough job desk (drop k posting) ≡ deskThrough job (deskAt free) posting
 
-  pub following-first : free ≤ 10000000 → (desk : Desk) → desk ≡ deskAt free → Following desk 0
-  following-first h desk e = record {
+  pub following-first : length posting ≤ mostRows → EndsInTime free (length posting) → (desk : Desk) → desk ≡ deskAt free → Following desk 0
+  following-first few h desk e = record {
     past = omega arith;
+    few = few;
     minutes = omega (arith, ap (λ (d : Desk). d .minute) e);
     lates = omega (arith, ap (λ (d : Desk). d .worst) e);
     same = ap (λ (d : Desk). deskThrough job d posting) e;
@@ -33,8 +36,8 @@ module _ (job : ℕ → Job) (free : ℕ) (posting : List ℕ) where
 
   module _ (limits : Limits job) (desk : Desk) (k : ℕ) (f : Following desk k) where
     -- What a row asks for.
-    pub may-follow : length posting ≤ 256 → (i : ℕ) → (desk .minute ≤ 1000000000) × (job i .release ≤ 1000000000) × (job i .length ≤ 1000000000) × (job i .due ≤ 2147483647)
-    may-follow h i = (
+    pub may-follow : (i : ℕ) → (desk .minute ≤ 1000000000) × (job i .release ≤ 1000000000) × (job i .length ≤ 1000000000) × (job i .due ≤ 2147483647)
+    may-follow i = (
       omega (arith, f .minutes, f .past),
       omega (arith, limits .releases i),
       omega (arith, limits .lengths i),
@@ -47,7 +50,8 @@ module _ (job : ℕ → Job) (free : ℕ) (posting : List ℕ) where
         let i = getD posting k 0 in
         record {
           past = omega arith;
-          minutes = omega (arith, f .minutes, ap (λ (d : Desk). d .minute) e, limits .releases i, limits .lengths i);
+          few = f .few;
+          minutes = omega (arith, f .minutes, f .few, ap (λ (d : Desk). d .minute) e, limits .releases i, limits .lengths i);
           lates = omega (arith, f .minutes, f .lates, ap (λ (d : Desk). d .worst) e, limits .releases i, limits .lengths i);
           same =
               (λ x. deskThrough job (e x) (drop (add-one k x) posting)) ∙
@@ -60,13 +64,13 @@ module _ (job : ℕ → Job) (free : ℕ) (posting : List ℕ) where
         let e : k ≡ length posting = omega (arith, f .past) in
         ap (deskThrough job desk) (sym (ap (λ (m : ℕ). drop m posting) e ∙ drop-length posting)) ∙ f .same
 
-    pub following-last : length posting ≤ k → length posting ≤ 256 → Followed job free posting desk
-    following-last h few =
+    pub following-last : length posting ≤ k → Followed job free posting desk
+    following-last h =
         let e = followed h in
         record {
           desk = e;
           end = ap (λ (d : Desk). d .minute) e ∙ followed-end job limits free posting;
           late = λ some. ap (λ (d : Desk). d .worst) e ∙ followed-raised job limits free posting some;
           low = λ some. omega (arith, ap (λ (d : Desk). d .worst) e, through-late job limits (deskAt free) posting some);
-          high = omega (arith, f .lates, f .past);
+          high = f .lates;
         }

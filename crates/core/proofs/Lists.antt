@@ -14,6 +14,7 @@ use lib.ListN.{length, getD, set, take, length-set, length-append}
 use lib.Seq.{getD-set-same, take-set-le, take-suc}
 use borrow.Author.Tests.{eq-eqb, ne-eqb}
 use Rattle.theory.specs.Jobs.{Job}
+use Rattle.schedule.specs.Limits.{EndsInTime, latestDue, latestEnd, longestTime, mostRows}
 use Rattle.schedule.specs.Rows.{countFrom}
 use Rattle.schedule.specs.Desk.{Pair, OrderOf, endOf, pairOf}
 use Rattle.schedule.specs.Picks.{orderFor}
@@ -82,11 +83,11 @@ module _ (job : ℕ → Job) (n free : ℕ) where
 
   -- What the loop keeps.
   pub record Listing (front : Front) (bound : ℕ) : Type 0 where
-    pub end-places : length (front .ends) ≡ 256
-    pub late-places : length (front .lates) ≡ 256
+    pub end-places : length (front .ends) ≡ mostRows
+    pub late-places : length (front .lates) ≡ mostRows
     pub so-far : ((front .count ≡ 0) × (bound ≡ 4294967295)) ⊎ Begun front bound
 
-  pub listing-first : (front : Front) → front .count ≡ 0 → length (front .ends) ≡ 256 → length (front .lates) ≡ 256 → Listing front 4294967295
+  pub listing-first : (front : Front) → front .count ≡ 0 → length (front .ends) ≡ mostRows → length (front .lates) ≡ mostRows → Listing front 4294967295
   listing-first front c e l = record { end-places = e; late-places = l; so-far = inl (c, refl) }
 
   -- The order behind an answer.
@@ -116,7 +117,7 @@ module _ (job : ℕ → Job) (n free : ℕ) where
       mark Unkept = 0
       mark (Kept e l) = 1
 
-  module _ (limits : Limits job) (low : 1 ≤ n) (small : n ≤ 256) (early : free ≤ 10000000) (agreeing : Agreeing job (countFrom 1 n)) where
+  module _ (limits : Limits job) (low : 1 ≤ n) (small : n ≤ mostRows) (early : EndsInTime free n) (agreeing : Agreeing job (countFrom 1 n)) where
     some-row : 0 < length rows
     some-row = omega (arith, length-count 1 n)
 
@@ -125,11 +126,11 @@ module _ (job : ℕ → Job) (n free : ℕ) where
 
     pub fits : Fits32 job free rows
     fits =
-        fits-32 10000000 0 30000 20000000 256 (omega arith) (omega arith)
+        fits-32 latestEnd 0 longestTime latestDue mostRows (omega arith) (omega arith)
         (record {
-          early = early;
+          early = omega (arith, early);
           few = omega (arith, length-count 1 n);
-          ranges = λ i m. (limits .releases i, omega arith, limits .lengths i, limits .dues i);
+          ranges = λ i m. (omega (arith, limits .releases i), omega arith, limits .lengths i, limits .dues i);
         })
         some-row
 
@@ -233,10 +234,10 @@ module _ (job : ℕ → Job) (n free : ℕ) where
                       going = g;
                     }
 
-        pub listing-room : (front .count ≤ 256) × (placeOf (front .ends) (front .count) e < 256)
+        pub listing-room : (front .count ≤ mostRows) × (placeOf (front .ends) (front .count) e < mostRows)
         listing-room = (go (s .so-far), omega (arith, placed .place, placed .room))
           where
-            go : ((front .count ≡ 0) × (bound ≡ 4294967295)) ⊎ Begun front bound → front .count ≤ 256
+            go : ((front .count ≡ 0) × (bound ≡ 4294967295)) ⊎ Begun front bound → front .count ≤ mostRows
             go (inl h) = omega (arith, h .0)
             go (inr b) = omega (arith, b .count, going-room plannable fits (b .done) (b .last) (lowered bound) (b .going), length-count 1 n)
 

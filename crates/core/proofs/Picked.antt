@@ -9,6 +9,7 @@ use lib.Dec.{leb, eqb}
 use lib.ListN.{length}
 use borrow.Author.Tests.{eqb-true, eqb-false, ne-eqb, le-leb, lt-leb}
 use Rattle.theory.specs.Jobs.{Job}
+use Rattle.schedule.specs.Limits.{mostRows}
 use Rattle.schedule.specs.Rows.{without}
 use Rattle.schedule.specs.Picks.{firstPick, others, secondPick, decided}
 use Rattle.schedule.proofs.Tests.{apart, neither}
@@ -50,10 +51,10 @@ module _ (n : ℕ) (job : ℕ → Job) (by : ℕ → ℕ) (tables : Tables n job
   now = s .desk .minute
 
   -- A row that is left over.
-  pub row-high : (i : ℕ) → List·Memᴰ i rest → (1 ≤ i) × (i ≤ 256)
+  pub row-high : (i : ℕ) → List·Memᴰ i rest → (1 ≤ i) × (i ≤ mostRows)
   row-high i m = (sits .stands .rows i m .0, omega (arith, sits .stands .rows i m .1, tables .few))
 
-  pub room : (i : ℕ) → List·Memᴰ i rest → s .count < 256
+  pub room : (i : ℕ) → List·Memᴰ i rest → s .count < mostRows
   room i m = omega (arith, length-without i rest m, sits .count, tables .few)
 
   no-row : (js : List ℕ) → js ≡ rest → firstPick job now js ≡ 0 → js ≡ []
@@ -71,10 +72,10 @@ module _ (n : ℕ) (job : ℕ → Job) (by : ℕ → ℕ) (tables : Tables n job
     pub first-mem : (i ≡ 0 → ⊥) → List·Memᴰ i rest
     first-mem z = pick-some job now i rest first z
 
-    pub first-within : i ≤ 256
+    pub first-within : i ≤ mostRows
     first-within = go (eqb i 0) refl
       where
-        go : (c : Bool) → eqb i 0 ≡ c → i ≤ 256
+        go : (c : Bool) → eqb i 0 ≡ c → i ≤ mostRows
         go true e = omega (arith, eqb-true i 0 e)
         go false e = row-high i (first-mem (eqb-false i 0 e)) .1
 
@@ -83,10 +84,10 @@ module _ (n : ℕ) (job : ℕ → Job) (by : ℕ → ℕ) (tables : Tables n job
     unfolding secondPick others
     second-mem z = mem-without (firstPick job now rest) rest (pick-some job now j (without (firstPick job now rest) rest) second z)
 
-    pub second-within : j ≤ 256
+    pub second-within : j ≤ mostRows
     second-within = go (eqb j 0) refl
       where
-        go : (c : Bool) → eqb j 0 ≡ c → j ≤ 256
+        go : (c : Bool) → eqb j 0 ≡ c → j ≤ mostRows
         go true e = omega (arith, eqb-true j 0 e)
         go false e = row-high j (second-mem (eqb-false j 0 e)) .1
 

@@ -8,6 +8,7 @@ use mathlib.Core.List.{List, _++_}
 use mathlib.Core.Option.{none, some}
 use lib.ListN.{length, take}
 use Rattle.theory.specs.Jobs.{Job}
+use Rattle.schedule.specs.Limits.{mostRows}
 use Rattle.schedule.specs.Rows.{countFrom, withoutAll}
 use Rattle.schedule.specs.Picks.{decided, run, blockOne, blockTwo}
 use Rattle.schedule.specs.Columns.{Limits}
@@ -31,7 +32,7 @@ module _ (n : ℕ) (job : ℕ → Job) (by : ℕ → ℕ) (free bound : ℕ) whe
   pub record Planning (order : List ℕ) (s : Standing) : Type 0 where
     pub kept : s .desk .worst ≤ bound → Planned order s
     pub over : bound < s .desk .worst → orderOf job n free bound ≡ none
-    pub places : length order ≡ 256
+    pub places : length order ≡ mostRows
 
 module _ (n : ℕ) (job : ℕ → Job) (by : ℕ → ℕ) (limits : Limits job) (free bound : ℕ) where
   pub planning-first : (s : Standing) (order : List ℕ) (r : Standing) (after : List ℕ) → s .desk ≡ deskAt free → s .count ≡ 0 →
@@ -59,7 +60,7 @@ module _ (n : ℕ) (job : ℕ → Job) (by : ℕ → ℕ) (limits : Limits job) 
       abbrev here : Planned n job by free bound order s
       here = g .kept low
 
-      pub searched-kept : n ≤ 256 → s .count ≡ n → Searched job n free bound s order
+      pub searched-kept : n ≤ mostRows → s .count ≡ n → Searched job n free bound s order
       searched-kept few e = record {
         kept = λ k. (
           way-done job limits n by free bound (take (s .count) order) (here .rest) s (here .way) e low ∙ ap (λ (m : ℕ). some (take m order)) e,

@@ -8,6 +8,7 @@ use mathlib.Core.Option.{Option, none, some, Option·map}
 use lib.ListN.{length, take, drop, length-map}
 use lib.Seq.{length-take-le}
 use Rattle.theory.specs.Jobs.{Job}
+use Rattle.schedule.specs.Limits.{EndsInTime, latestDue, latestMinute, longestTime, mostRows}
 use Rattle.schedule.specs.declared.Desk.{Desk}
 use Rattle.schedule.specs.Rows.{countFrom}
 use Rattle.schedule.specs.Desk.{Pair, endOf, pairOf}
@@ -16,7 +17,9 @@ use Rattle.schedule.specs.Promise.{Agreeing}
 use Rattle.schedule.specs.Offset.{raised, lowered, deskAt}
 use Rattle.schedule.specs.Columns.{at, columns, Limits}
 use Rattle.schedule.proofs.Sorted.{place-mem}
-use Rattle.schedule.proofs.Renumbered.{in-rank, renumbered, order-rows, pair-renumbered, agreeing, same-plans}
+use Rattle.schedule.proofs.Matches.{match-all}
+use Rattle.schedule.proofs.RankPicks.{Renumbers}
+use Rattle.schedule.proofs.Renumbered.{by-rank, in-rank, renumbered, order-rows, pair-renumbered, agreeing, same-plans}
 use Rattle.ranks.specs.Tables.{Tabled}
 use Rattle.ranks.proofs.Ranking.{ranked-jobs}
 use Rattle.picks.specs.declared.Standing.{Standing}
@@ -37,23 +40,26 @@ module _ {n : ℕ} {release length₀ due rows release′ length′ due′ by : 
   same : (k : ℕ) → 1 ≤ k → k ≤ n → job′ k ≡ job (at rows k)
   same = ranked-jobs (t .releases-ranked) (t .lengths-ranked) (t .dues-ranked)
 
+  new : Renumbers n job job′ (at rows)
+  new = by-rank n job job′ (at rows) (t .by-rank) same
+
   pub limits-ranked : Limits job′
   limits-ranked = record {
-    releases = t .releases-ranked .within 10000000 (limits .releases);
-    lengths = t .lengths-ranked .within 30000 (limits .lengths);
-    dues = t .dues-ranked .within 20000000 (limits .dues);
+    releases = t .releases-ranked .within latestMinute (limits .releases);
+    lengths = t .lengths-ranked .within longestTime (limits .lengths);
+    dues = t .dues-ranked .within latestDue (limits .dues);
   }
 
-  pub tables : n ≤ 256 → Tables n job′ (at by)
+  pub tables : n ≤ mostRows → Tables n job′ (at by)
   tables few = record { few = few; in-rank = in-rank n job job′ (at rows) (t .by-rank) same; by-release = t .by-release length′ due′ }
 
   pub agreeing-ranked : Agreeing job (countFrom 1 n) → Agreeing job′ (countFrom 1 n)
-  agreeing-ranked = agreeing n job job′ (at rows) (t .by-rank) same
+  agreeing-ranked = agreeing new (match-all (t .by-rank))
 
   -- The order for a bound.
-  module _ (low : 1 ≤ n) (few : n ≤ 256) (free bound : ℕ) (out : List ℕ) (s : Standing) (order : List ℕ) (g : Searched job′ n free bound s order) where
+  module _ (low : 1 ≤ n) (few : n ≤ mostRows) (free bound : ℕ) (out : List ℕ) (s : Standing) (order : List ℕ) (g : Searched job′ n free bound s order) where
     order-is : (x : Option (List ℕ)) → orderOf job′ n free bound ≡ x → orderOf job n free bound ≡ Option·map (map (at rows)) x
-    order-is x e = renumbered n job job′ (at rows) (t .by-rank) same free (lowered bound) ∙ ap (Option·map (map (at rows))) e
+    order-is x e = renumbered new (match-all (t .by-rank)) free (lowered bound) ∙ ap (Option·map (map (at rows))) e
 
     pub ordered-over : bound < s .desk .worst → Ordered job n free bound out Unkept out
     unfolding plannedOf writtenOf
@@ -69,16 +75,16 @@ module _ {n : ℕ} {release length₀ due rows release′ length′ due′ by : 
       ranks-long = length-take-le n order (omega (arith, g .places))
 
       ranks-within : (k : ℕ) → List·Memᴰ k ranks → (1 ≤ k) × (k ≤ n)
-      ranks-within = order-rows n job job′ (at rows) (t .by-rank) same free (lowered bound) ranks (g .kept h .0)
+      ranks-within = order-rows new (match-all (t .by-rank)) free (lowered bound) ranks (g .kept h .0)
 
-      pub ranks-high : (i : ℕ) → i < n → at order i ≤ 256
+      pub ranks-high : (i : ℕ) → i < n → at order i ≤ mostRows
       ranks-high i l = omega (arith, ranks-within (at order i) (place-mem n order i l (omega (arith, g .places))))
 
       pub ordered-kept : (after : List ℕ) → after ≡ map (at rows) ranks ++ drop n out → Ordered job n free bound out (Kept (s .desk .minute) (s .desk .worst)) after
       unfolding plannedOf writtenOf
       ordered-kept after w =
           let e = order-is (some ranks) (g .kept h .0) in
-          let p : pairOf job free (map (at rows) ranks) ≡ pairOf job′ free ranks = pair-renumbered n job job′ (at rows) (t .by-rank) same free ranks ranks-within in
+          let p : pairOf job free (map (at rows) ranks) ≡ pairOf job′ free ranks = pair-renumbered new (match-all (t .by-rank)) free ranks ranks-within in
           let d = g .kept h .1 in
           let some-row : 1 ≤ length ranks = omega (arith, ranks-long) in
           let m : s .desk .minute ≡ endOf job free (map (at rows) ranks) =
@@ -92,10 +98,10 @@ module _ {n : ℕ} {release length₀ due rows release′ length′ due′ by : 
           }
 
   -- The list of plans.
-  pub listed-ranked : 1 ≤ n → n ≤ 256 → (free : ℕ) → free ≤ 10000000 → Agreeing job (countFrom 1 n) → (r : Front) → Listed job′ n free r → Listed job n free r
+  pub listed-ranked : 1 ≤ n → n ≤ mostRows → (free : ℕ) → EndsInTime free n → Agreeing job (countFrom 1 n) → (r : Front) → Listed job′ n free r → Listed job n free r
   listed-ranked low few free early agrees r g =
       let e : plans job′ free (countFrom 1 n) ≡ plans job free (countFrom 1 n) =
-      sym (same-plans n job job′ (at rows) (t .by-rank) same free agrees low (fits job n free limits low few early agrees) (fits job′ n free limits-ranked low few early (agreeing-ranked agrees))) in
+      sym (same-plans new (match-all (t .by-rank)) free agrees low (fits job n free limits low few early agrees) (fits job′ n free limits-ranked low few early (agreeing-ranked agrees))) in
       record {
         counted = g .counted ∙ ap length e;
         few = g .few;

@@ -13,6 +13,7 @@ use lib.ListN.{length, take, set}
 use lib.Seq.{getD-set-same}
 use borrow.Author.Tests.{leb-true, leb-false}
 use Rattle.theory.specs.Jobs.{Job}
+use Rattle.schedule.specs.Limits.{mostRows}
 use Rattle.schedule.specs.declared.Desk.{Desk}
 use Rattle.schedule.specs.Rows.{countFrom, withoutAll}
 use Rattle.schedule.specs.Desk.{endOf, pairOf}
@@ -183,7 +184,7 @@ module _ (n : ℕ) (job : ℕ → Job) (by : ℕ → ℕ) (limits : Limits job) 
     found-all e = record { came = g; all = λ l. e }
 
   -- At its end the search answers with the pair of the order for the bound.
-  module _ (low : 1 ≤ n) (few : n ≤ 256) (bound : ℕ) (trail : List (List ℕ)) (r : Reached) (f : Found n job by free bound trail r) where
+  module _ (low : 1 ≤ n) (few : n ≤ mostRows) (bound : ℕ) (trail : List (List ℕ)) (r : Reached) (f : Found n job by free bound trail r) where
     abbrev end : Desk
     end = r .at .desk
 

@@ -10,6 +10,7 @@ use mathlib.Core.Logic.{inl, inr}
 use lib.ListN.{length, take, set, length-append, length-set}
 use lib.Seq.{take-set-le, take-suc-set, take-take}
 use Rattle.theory.specs.Jobs.{Job, finish}
+use Rattle.schedule.specs.Limits.{mostRows}
 use Rattle.schedule.specs.declared.Desk.{Desk}
 use Rattle.schedule.specs.Rows.{without, withoutAll}
 use Rattle.schedule.specs.Picks.{firstPick, decided, run, block}
@@ -40,9 +41,9 @@ module _ (n : ℕ) (job : ℕ → Job) (by : ℕ → ℕ) where
     pub count : s .count ≡ b .count + length taken
     pub written : take (s .count) order ≡ take (b .count) order₀ ++ taken
     pub before : take (b .count) order ≡ take (b .count) order₀
-    pub places : length order ≡ 256
+    pub places : length order ≡ mostRows
 
-  pub toward-first : (all : List ℕ) (b : Standing) (order : List ℕ) → Sits n job by all b → length order ≡ 256 → Toward all b order b order
+  pub toward-first : (all : List ℕ) (b : Standing) (order : List ℕ) → Sits n job by all b → length order ≡ mostRows → Toward all b order b order
   unfolding withoutAll deskThrough
   toward-first all b order g l = record {
     taken = [];
@@ -106,7 +107,7 @@ module _ (n : ℕ) (job : ℕ → Job) (by : ℕ → ℕ) where
 
     -- The first pick is taken.
     module _ (i : ℕ) (first : i ≡ firstPick job (s .desk .minute) rest) (m : List·Memᴰ i rest) (r : Standing) (a : Taken n job by rest s i r) where
-      pub toward-next : decided job (s .desk .minute) rest ≡ true → s .count < 256 → Toward all b order₀ r (set order (s .count) i)
+      pub toward-next : decided job (s .desk .minute) rest ≡ true → s .count < mostRows → Toward all b order₀ r (set order (s .count) i)
       unfolding withoutAll deskThrough
       toward-next d h =
           let more = o .taken ++ (i ∷ []) in
@@ -134,7 +135,7 @@ module _ (n : ℕ) (job : ℕ → Job) (by : ℕ → ℕ) where
       toward-less = omega (arith, a .count, a .sits .count)
 
   -- A row, and the run from there.
-  module _ (limits : Limits job) (rest : List ℕ) (s : Standing) (order : List ℕ) (i : ℕ) (first : Standing) (a : Taken n job by rest s i first) (h : s .count < 256) (l : length order ≡ 256) where
+  module _ (limits : Limits job) (rest : List ℕ) (s : Standing) (order : List ℕ) (i : ℕ) (first : Standing) (a : Taken n job by rest s i first) (h : s .count < mostRows) (l : length order ≡ mostRows) where
     abbrev begun : List ℕ
     begun = set order (s .count) i
 

@@ -8,6 +8,7 @@ use mathlib.Core.Option.{Option, none, some}
 use lib.Dec.{eqb, leb}
 use lib.ListN.{length, getD, set, take, drop}
 use Rattle.theory.specs.Jobs.{Job}
+use Rattle.schedule.specs.Limits.{latestRaised, mostRows}
 use Rattle.schedule.specs.declared.Desk.{Desk}
 use Rattle.schedule.specs.Rows.{countFrom}
 use Rattle.schedule.specs.Desk.{endOf, pairOf}
@@ -20,10 +21,10 @@ use Rattle.core.specs.declared.Planned.{Planned}
 use Rattle.core.specs.declared.Planned.the-variants.{Kept, Unkept}
 use Rattle.core.specs.Taking.{deskThrough}
 
--- A raised lateness is at least 1, at most the bound, and at most 17,680,000 raised.
+-- A raised lateness is at least 1, at most the bound, and at most the latest, raised.
 abbrev pub Bounded : ℕ → Planned → Type 0
 Bounded bound Unkept = Unit {0}
-Bounded bound (Kept end late) = (1 ≤ late) × (late ≤ bound) × (late ≤ 2165163648)
+Bounded bound (Kept end late) = (1 ≤ late) × (late ≤ bound) × (late ≤ latestRaised)
 
 -- What a desk answers for a bound: its pair, where its worst lateness is within the bound.
 unfoldable pub answerOf : Desk → ℕ → Planned
@@ -57,9 +58,9 @@ module _ (job : ℕ → Job) where
 
   -- The whole outcome of the search for the order for a bound: the desk after it and the order; or that the bound is unkept.
   pub record Searched (n free bound : ℕ) (r : Standing) (order : List ℕ) : Type 0 where
-    pub kept : r .desk .worst ≤ bound → (orderOf n free bound ≡ some (take n order)) × (r .desk ≡ deskThrough job (deskAt free) (take n order)) × (r .desk .worst ≤ 2165163648)
+    pub kept : r .desk .worst ≤ bound → (orderOf n free bound ≡ some (take n order)) × (r .desk ≡ deskThrough job (deskAt free) (take n order)) × (r .desk .worst ≤ latestRaised)
     pub over : bound < r .desk .worst → orderOf n free bound ≡ none
-    pub places : length order ≡ 256
+    pub places : length order ≡ mostRows
 
   -- The whole outcome of the call for an order's pair.
   pub record Paired (n free bound : ℕ) (answer : Planned) : Type 0 where
@@ -78,7 +79,7 @@ module _ (job : ℕ → Job) where
     pub end : r .minute ≡ endOf job free posting
     pub late : 1 ≤ length posting → r .worst ≡ raised (pairOf job free posting .late)
     pub low : 1 ≤ length posting → 1 ≤ r .worst
-    pub high : r .worst ≤ 2165163648
+    pub high : r .worst ≤ latestRaised
 
   -- The whole outcome of the call for the list: how many plans, and the end and the raised lateness of each.
   pub record Listed (n free : ℕ) (r : Front) : Type 0 where
@@ -86,5 +87,5 @@ module _ (job : ℕ → Job) where
     pub few : r .count ≤ n
     pub ends : take (r .count) (r .ends) ≡ map (λ p. p .end) (plans job free (countFrom 1 n))
     pub lates : take (r .count) (r .lates) ≡ map (λ p. raised (p .late)) (plans job free (countFrom 1 n))
-    pub end-places : length (r .ends) ≡ 256
-    pub late-places : length (r .lates) ≡ 256
+    pub end-places : length (r .ends) ≡ mostRows
+    pub late-places : length (r .lates) ≡ mostRows

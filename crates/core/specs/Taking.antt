@@ -7,6 +7,7 @@ use mathlib.Core.List.{List, [], _∷_, _++_}
 use mathlib.Core.Logic.{_⊎_}
 use lib.ListN.{length, take}
 use Rattle.theory.specs.Jobs.{Job}
+use Rattle.schedule.specs.Limits.{mostRows}
 use Rattle.schedule.specs.declared.Desk.{Desk}
 use Rattle.schedule.specs.Rows.{withoutAll}
 use Rattle.schedule.specs.Picks.{decided, blockOne, blockTwo}
@@ -39,7 +40,7 @@ module _ (n : ℕ) (job : ℕ → Job) (by : ℕ → ℕ) where
     pub over : bound < r .desk .worst → bound < deskThrough job (s .desk) taken .worst
     pub before : take (s .count) after ≡ take (s .count) order
     pub counts : (s .count ≤ r .count) × (r .count ≤ n)
-    pub places : length after ≡ 256
+    pub places : length after ≡ mostRows
 
   -- The next block: block one where the bound is kept with it, otherwise block two.
   pub record Stepped (bound : ℕ) (rest : List ℕ) (s : Standing) (order : List ℕ) (r : Block) (after : List ℕ) : Type 0 where
@@ -47,4 +48,4 @@ module _ (n : ℕ) (job : ℕ → Job) (by : ℕ → ℕ) where
     pub two : r .second ≡ true → (bound < deskThrough job (s .desk) (blockOne job (s .desk .minute) rest) .worst) ×
         Ran bound rest s (blockTwo job (s .desk .minute) rest) order (r .after) after
     pub counts : (s .count < r .after .count) × (r .after .count ≤ n)
-    pub places : length after ≡ 256
+    pub places : length after ≡ mostRows

@@ -7,6 +7,7 @@ use mathlib.Core.List.{List, [], _∷_}
 use mathlib.Core.Option.{none}
 use lib.ListN.{length, getD}
 use Rattle.theory.specs.Jobs.{Job}
+use Rattle.schedule.specs.Limits.{mostRows}
 use Rattle.schedule.specs.Picks.{joined, decided, blockOne, blockTwo, blocksFor}
 use Rattle.schedule.specs.Offset.{lowered, deskAt}
 use Rattle.schedule.specs.Columns.{at}
@@ -25,8 +26,8 @@ wordsOf s second = s .desk .minute ∷ s .desk .worst ∷ s .count ∷ s .next �
 pub record Fits (s : Standing) : Type 0 where
   pub minute : s .desk .minute ≤ 4294967295
   pub worst : s .desk .worst ≤ 4294967295
-  pub count : s .count ≤ 256
-  pub next : s .next ≤ 256
+  pub count : s .count ≤ mostRows
+  pub next : s .next ≤ mostRows
   pub ready : length (s .ready) ≡ 5
 
 -- The words at a place of the trail; and the worst lateness before the block that began there.

@@ -7,6 +7,7 @@ ghost use mathlib.Core.List.{List, List·Memᴰ, _++_, map};
 ghost use Prim.Native.Nat.{ℕ, _+_, _-_, _≤_, _<_};
 ghost use lib.Dec.{leb, eqb};
 ghost use lib.ListN.{getD, take, drop};
+ghost use Rattle.schedule.specs.Limits.{EndsInTime, mostRows, rowPlaces};
 ghost use Rattle.schedule.specs.Rows.{countFrom};
 ghost use Rattle.schedule.specs.Picks.{decided, run, block, blockTwo};
 ghost use Rattle.schedule.specs.Promise.{Agreeing};
@@ -16,6 +17,7 @@ ghost use Rattle.picks.specs.Standing.{Tables, Sits};
 ghost use Rattle.core.specs.Taking.{Ran, Stepped};
 ghost use Rattle.core.specs.Answers.{Searched, Ordered, Followed, answerOf, placeOf, putPair, Listed};
 ghost use Rattle.core.specs.Trails.{wordsOf, Fits, Back, Came, Found, Lowered};
+use schedule::Desk;
 
 // The answer for a bound: the order's end and its worst lateness, raised.
 pub enum Planned {
@@ -26,8 +28,8 @@ pub enum Planned {
 // The list of plans: the end of each, and its lateness, raised.
 pub struct Front {
     pub count: usize,
-    pub ends: [u32; 256],
-    pub lates: [u32; 256],
+    pub ends: [u32; Desk::ROWS],
+    pub lates: [u32; Desk::ROWS],
 }
 
 // The largest bound: the largest signed 32-bit number, raised by 2^31.
@@ -54,8 +56,8 @@ struct Reached {
 }
 
 // The desk is decided: there is no second pick, or the first pick's due is at most the second pick's.
-fn decided_by(due: &[u32; 257], i: usize, j: usize) -> bool
-    requires { ⌜ (i < 257) × (j < 257) ⌝ }
+fn decided_by(due: &[u32; Desk::PLACES], i: usize, j: usize) -> bool
+    requires { ⌜ (i < rowPlaces) × (j < rowPlaces) ⌝ }
     ensures { λ r. ⌜ r ≡ (eqb j 0 || leb (getD (now (due .entry)) i 0) (getD (now (due .entry)) j 0)) ⌝ }
 {
     if j == 0 {
@@ -68,18 +70,18 @@ fn decided_by(due: &[u32; 257], i: usize, j: usize) -> bool
 
 // First picks as long as the desk is decided and the bound is kept. The rows taken stand in the order from place `count` on.
 fn run_on(
-    release: &[u32; 257],
-    length: &[u32; 257],
-    due: &[u32; 257],
-    by: &[u32; 256],
+    release: &[u32; Desk::PLACES],
+    length: &[u32; Desk::PLACES],
+    due: &[u32; Desk::PLACES],
+    by: &[u32; Desk::ROWS],
     n: usize,
     begin: picks::Standing,
     bound: u32,
-    order: &mut [u32; 256],
+    order: &mut [u32; Desk::ROWS],
 ) -> picks::Standing
     requires { ⌜ Limits (columns (now release) (now length) (now due)) ⌝ }
     requires { ⌜ Tables n (columns (now release) (now length) (now due)) (at (now by)) ⌝ }
-    requires { ⌜ ((rest : List ℕ) × Sits n (columns (now release) (now length) (now due)) (at (now by)) rest begin) × (lib.ListN.length (now order) ≡ 256) ⌝ }
+    requires { ⌜ ((rest : List ℕ) × Sits n (columns (now release) (now length) (now due)) (at (now by)) rest begin) × (lib.ListN.length (now order) ≡ mostRows) ⌝ }
     ensures { λ r. ⌜ ((rest : List ℕ) → Sits n (columns (now (release .entry)) (now (length .entry)) (now (due .entry))) (at (now (by .entry))) rest begin →
         Ran n (columns (now (release .entry)) (now (length .entry)) (now (due .entry))) (at (now (by .entry))) bound rest begin (run (columns (now (release .entry)) (now (length .entry)) (now (due .entry))) (begin .desk .minute) rest) (now (order .entry)) r (now (order .exit))) ⌝ }
 {
@@ -124,19 +126,19 @@ fn run_on(
 
 // Row i, then the run from there, as long as the bound is kept.
 fn block_on(
-    release: &[u32; 257],
-    length: &[u32; 257],
-    due: &[u32; 257],
-    by: &[u32; 256],
+    release: &[u32; Desk::PLACES],
+    length: &[u32; Desk::PLACES],
+    due: &[u32; Desk::PLACES],
+    by: &[u32; Desk::ROWS],
     n: usize,
     s: picks::Standing,
     i: usize,
     bound: u32,
-    order: &mut [u32; 256],
+    order: &mut [u32; Desk::ROWS],
 ) -> picks::Standing
     requires { ⌜ Limits (columns (now release) (now length) (now due)) ⌝ }
     requires { ⌜ Tables n (columns (now release) (now length) (now due)) (at (now by)) ⌝ }
-    requires { ⌜ ((rest : List ℕ) × Sits n (columns (now release) (now length) (now due)) (at (now by)) rest s × List·Memᴰ i rest) × (lib.ListN.length (now order) ≡ 256) ⌝ }
+    requires { ⌜ ((rest : List ℕ) × Sits n (columns (now release) (now length) (now due)) (at (now by)) rest s × List·Memᴰ i rest) × (lib.ListN.length (now order) ≡ mostRows) ⌝ }
     ensures { λ r. ⌜ ((rest : List ℕ) → Sits n (columns (now (release .entry)) (now (length .entry)) (now (due .entry))) (at (now (by .entry))) rest s → List·Memᴰ i rest →
         (s .count < r .count) × Ran n (columns (now (release .entry)) (now (length .entry)) (now (due .entry))) (at (now (by .entry))) bound rest s (block (columns (now (release .entry)) (now (length .entry)) (now (due .entry))) i (s .desk .minute) rest) (now (order .entry)) r (now (order .exit))) ⌝ }
 {
@@ -156,18 +158,18 @@ fn block_on(
 
 // Block one if the bound is kept with it, otherwise block two.
 fn next_block(
-    release: &[u32; 257],
-    length: &[u32; 257],
-    due: &[u32; 257],
-    by: &[u32; 256],
+    release: &[u32; Desk::PLACES],
+    length: &[u32; Desk::PLACES],
+    due: &[u32; Desk::PLACES],
+    by: &[u32; Desk::ROWS],
     n: usize,
     s: picks::Standing,
     bound: u32,
-    order: &mut [u32; 256],
+    order: &mut [u32; Desk::ROWS],
 ) -> Block
     requires { ⌜ Limits (columns (now release) (now length) (now due)) ⌝ }
     requires { ⌜ Tables n (columns (now release) (now length) (now due)) (at (now by)) ⌝ }
-    requires { ⌜ ((rest : List ℕ) × Sits n (columns (now release) (now length) (now due)) (at (now by)) rest s × (decided (columns (now release) (now length) (now due)) (s .desk .minute) rest ≡ false)) × (lib.ListN.length (now order) ≡ 256) ⌝ }
+    requires { ⌜ ((rest : List ℕ) × Sits n (columns (now release) (now length) (now due)) (at (now by)) rest s × (decided (columns (now release) (now length) (now due)) (s .desk .minute) rest ≡ false)) × (lib.ListN.length (now order) ≡ mostRows) ⌝ }
     ensures { λ r. ⌜ ((rest : List ℕ) → Sits n (columns (now (release .entry)) (now (length .entry)) (now (due .entry))) (at (now (by .entry))) rest s → decided (columns (now (release .entry)) (now (length .entry)) (now (due .entry))) (s .desk .minute) rest ≡ false →
         Stepped n (columns (now (release .entry)) (now (length .entry)) (now (due .entry))) (at (now (by .entry))) bound rest s (now (order .entry)) r (now (order .exit))) ⌝ }
 {
@@ -188,18 +190,18 @@ fn next_block(
 
 // Block two.
 fn block_two(
-    release: &[u32; 257],
-    length: &[u32; 257],
-    due: &[u32; 257],
-    by: &[u32; 256],
+    release: &[u32; Desk::PLACES],
+    length: &[u32; Desk::PLACES],
+    due: &[u32; Desk::PLACES],
+    by: &[u32; Desk::ROWS],
     n: usize,
     s: picks::Standing,
     bound: u32,
-    order: &mut [u32; 256],
+    order: &mut [u32; Desk::ROWS],
 ) -> picks::Standing
     requires { ⌜ Limits (columns (now release) (now length) (now due)) ⌝ }
     requires { ⌜ Tables n (columns (now release) (now length) (now due)) (at (now by)) ⌝ }
-    requires { ⌜ ((rest : List ℕ) × Sits n (columns (now release) (now length) (now due)) (at (now by)) rest s × (decided (columns (now release) (now length) (now due)) (s .desk .minute) rest ≡ false)) × (lib.ListN.length (now order) ≡ 256) ⌝ }
+    requires { ⌜ ((rest : List ℕ) × Sits n (columns (now release) (now length) (now due)) (at (now by)) rest s × (decided (columns (now release) (now length) (now due)) (s .desk .minute) rest ≡ false)) × (lib.ListN.length (now order) ≡ mostRows) ⌝ }
     ensures { λ r. ⌜ ((rest : List ℕ) → Sits n (columns (now (release .entry)) (now (length .entry)) (now (due .entry))) (at (now (by .entry))) rest s → decided (columns (now (release .entry)) (now (length .entry)) (now (due .entry))) (s .desk .minute) rest ≡ false →
         (s .count < r .count) × Ran n (columns (now (release .entry)) (now (length .entry)) (now (due .entry))) (at (now (by .entry))) bound rest s (blockTwo (columns (now (release .entry)) (now (length .entry)) (now (due .entry))) (s .desk .minute) rest) (now (order .entry)) r (now (order .exit))) ⌝ }
 {
@@ -209,18 +211,18 @@ fn block_two(
 
 // The search for the order for a bound: the run, then blocks, until no row is left or a lateness is above the bound.
 fn plan_for(
-    release: &[u32; 257],
-    length: &[u32; 257],
-    due: &[u32; 257],
-    by: &[u32; 256],
+    release: &[u32; Desk::PLACES],
+    length: &[u32; Desk::PLACES],
+    due: &[u32; Desk::PLACES],
+    by: &[u32; Desk::ROWS],
     n: usize,
     free: u32,
     bound: u32,
-    order: &mut [u32; 256],
+    order: &mut [u32; Desk::ROWS],
 ) -> picks::Standing
     requires { ⌜ Limits (columns (now release) (now length) (now due)) ⌝ }
     requires { ⌜ Tables n (columns (now release) (now length) (now due)) (at (now by)) ⌝ }
-    requires { ⌜ (1 ≤ n) × (free ≤ 10000000) × (lib.ListN.length (now order) ≡ 256) ⌝ }
+    requires { ⌜ (1 ≤ n) × EndsInTime free n × (lib.ListN.length (now order) ≡ mostRows) ⌝ }
     ensures { λ r. ⌜ Searched (columns (now (release .entry)) (now (length .entry)) (now (due .entry))) n free bound r (now (order .exit)) ⌝ }
 {
     let begin = picks::start(release, by, n, free);
@@ -238,8 +240,8 @@ fn plan_for(
 }
 
 // The rows of the first k ranks of an order, into a lent buffer.
-fn write_order(order: &[u32; 256], rows: &[u32; 257], k: usize, out: &mut [u32])
-    requires { ⌜ (k ≤ 256) × (k ≤ lib.ListN.length (now out)) × (lib.ListN.length (now order) ≡ 256) × ((i : ℕ) → i < k → at (now order) i ≤ 256) ⌝ }
+fn write_order(order: &[u32; Desk::ROWS], rows: &[u32; Desk::PLACES], k: usize, out: &mut [u32])
+    requires { ⌜ (k ≤ mostRows) × (k ≤ lib.ListN.length (now out)) × (lib.ListN.length (now order) ≡ mostRows) × ((i : ℕ) → i < k → at (now order) i ≤ mostRows) ⌝ }
     ensures { λ _. ⌜ now (out .exit) ≡ map (at (now (rows .entry))) (take k (now (order .entry))) ++ drop k (now (out .entry)) ⌝ }
 {
     let mut i = 0;
@@ -251,23 +253,23 @@ fn write_order(order: &[u32; 256], rows: &[u32; 257], k: usize, out: &mut [u32])
 
 // The order for a bound, written to the front of a lent buffer; a bound that is not kept leaves the buffer as it was.
 pub fn order_for(
-    release: &[u32; 257],
-    length: &[u32; 257],
-    due: &[u32; 257],
+    release: &[u32; Desk::PLACES],
+    length: &[u32; Desk::PLACES],
+    due: &[u32; Desk::PLACES],
     n: usize,
     free: u32,
     bound: u32,
     out: &mut [u32],
 ) -> Planned
     requires { ⌜ Limits (columns (now release) (now length) (now due)) ⌝ }
-    requires { ⌜ (1 ≤ n) × (n ≤ 256) × (free ≤ 10000000) × (n ≤ lib.ListN.length (now out)) ⌝ }
+    requires { ⌜ (1 ≤ n) × (n ≤ mostRows) × EndsInTime free n × (n ≤ lib.ListN.length (now out)) ⌝ }
     ensures { λ r. ⌜ Ordered (columns (now (release .entry)) (now (length .entry)) (now (due .entry))) n free bound (now (out .entry)) r (now (out .exit)) ⌝ }
 {
-    let mut rows: [u32; 257] = [0; 257];
-    let mut releases: [u32; 257] = [0; 257];
-    let mut lengths: [u32; 257] = [0; 257];
-    let mut dues: [u32; 257] = [0; 257];
-    let mut by: [u32; 256] = [0; 256];
+    let mut rows: [u32; Desk::PLACES] = [0; Desk::PLACES];
+    let mut releases: [u32; Desk::PLACES] = [0; Desk::PLACES];
+    let mut lengths: [u32; Desk::PLACES] = [0; Desk::PLACES];
+    let mut dues: [u32; Desk::PLACES] = [0; Desk::PLACES];
+    let mut by: [u32; Desk::ROWS] = [0; Desk::ROWS];
     ranks::tables(
         release,
         length,
@@ -279,7 +281,7 @@ pub fn order_for(
         &mut dues,
         &mut by,
     );
-    let mut order: [u32; 256] = [0; 256];
+    let mut order: [u32; Desk::ROWS] = [0; Desk::ROWS];
     let s = plan_for(&releases, &lengths, &dues, &by, n, free, bound, &mut order);
     if bound < s.desk.worst {
         return Planned::Unkept;
@@ -290,17 +292,17 @@ pub fn order_for(
 
 // The desk after the rows of a posting in turn.
 pub fn follow(
-    release: &[u32; 257],
-    length: &[u32; 257],
-    due: &[u32; 257],
+    release: &[u32; Desk::PLACES],
+    length: &[u32; Desk::PLACES],
+    due: &[u32; Desk::PLACES],
     free: u32,
     posting: &[u32],
-) -> schedule::Desk
+) -> Desk
     requires { ⌜ Limits (columns (now release) (now length) (now due)) ⌝ }
-    requires { ⌜ (free ≤ 10000000) × (lib.ListN.length (now posting) ≤ 256) × ((k : ℕ) → getD (now posting) k 0 ≤ 256) ⌝ }
+    requires { ⌜ EndsInTime free (lib.ListN.length (now posting)) × (lib.ListN.length (now posting) ≤ mostRows) × ((k : ℕ) → getD (now posting) k 0 ≤ mostRows) ⌝ }
     ensures { λ r. ⌜ Followed (columns (now (release .entry)) (now (length .entry)) (now (due .entry))) free (now (posting .entry)) r ⌝ }
 {
-    let mut desk = schedule::Desk::at(free);
+    let mut desk = Desk::at(free);
     let mut k = 0;
     while k < posting.len() {
         let i = posting[k] as usize;
@@ -311,8 +313,8 @@ pub fn follow(
 }
 
 // The place of the next pair on the list: that of the last pair where both have one end, otherwise the place after it.
-fn place_of(ends: &[u32; 256], count: usize, end: u32) -> usize
-    requires { ⌜ count ≤ 256 ⌝ }
+fn place_of(ends: &[u32; Desk::ROWS], count: usize, end: u32) -> usize
+    requires { ⌜ count ≤ mostRows ⌝ }
     ensures { λ r. ⌜ r ≡ placeOf (now (ends .entry)) count end ⌝ }
 {
     if count == 0 {
@@ -327,13 +329,13 @@ fn place_of(ends: &[u32; 256], count: usize, end: u32) -> usize
 
 // The list with one pair more, which takes the place of the last pair where both have one end; and the pairs there are then.
 fn put_pair(
-    ends: &mut [u32; 256],
-    lates: &mut [u32; 256],
+    ends: &mut [u32; Desk::ROWS],
+    lates: &mut [u32; Desk::ROWS],
     count: usize,
     end: u32,
     late: u32,
 ) -> usize
-    requires { ⌜ (count ≤ 256) × (placeOf (now ends) count end < 256) ⌝ }
+    requires { ⌜ (count ≤ mostRows) × (placeOf (now ends) count end < mostRows) ⌝ }
     ensures { λ r. ⌜ record { count = r; ends = now (ends .exit); lates = now (lates .exit) } ≡ putPair (record { count = count; ends = now (ends .entry); lates = now (lates .entry) }) end late ⌝ }
 {
     let k = place_of(ends, count, end);
@@ -367,7 +369,7 @@ fn desk_of(w: [u64; 10]) -> picks::Standing
     ensures { λ r. ⌜ ((s : Standing) (second : Bool) → Fits s → w ≡ wordsOf s second → r ≡ s) ⌝ }
 {
     picks::Standing {
-        desk: schedule::Desk {
+        desk: Desk {
             minute: w[0] as u32,
             worst: w[1] as u32,
         },
@@ -379,21 +381,21 @@ fn desk_of(w: [u64; 10]) -> picks::Standing
 
 // Blocks from a desk on, each kept on the trail from the place `from` on, until no row is left or a lateness is above the bound.
 fn onward(
-    release: &[u32; 257],
-    length: &[u32; 257],
-    due: &[u32; 257],
-    by: &[u32; 256],
+    release: &[u32; Desk::PLACES],
+    length: &[u32; Desk::PLACES],
+    due: &[u32; Desk::PLACES],
+    by: &[u32; Desk::ROWS],
     n: usize,
     first: picks::Standing,
     from: usize,
     bound: u32,
-    order: &mut [u32; 256],
+    order: &mut [u32; Desk::ROWS],
     trail: &mut [[u64; 10]],
 ) -> Reached
     requires { ⌜ Limits (columns (now release) (now length) (now due)) ⌝ }
     requires { ⌜ Tables n (columns (now release) (now length) (now due)) (at (now by)) ⌝ }
-    requires { ⌜ (lib.ListN.length (now order) ≡ 256) × (n ≤ lib.ListN.length (now trail)) × ((free : ℕ) × Came n (columns (now release) (now length) (now due)) (at (now by)) free bound (now trail) from first) ⌝ }
-    ensures { λ r. ⌜ (lib.ListN.length (now (order .exit)) ≡ 256) × (n ≤ lib.ListN.length (now (trail .exit))) ×
+    requires { ⌜ (lib.ListN.length (now order) ≡ mostRows) × (n ≤ lib.ListN.length (now trail)) × ((free : ℕ) × Came n (columns (now release) (now length) (now due)) (at (now by)) free bound (now trail) from first) ⌝ }
+    ensures { λ r. ⌜ (lib.ListN.length (now (order .exit)) ≡ mostRows) × (n ≤ lib.ListN.length (now (trail .exit))) ×
         ((free : ℕ) → Came n (columns (now (release .entry)) (now (length .entry)) (now (due .entry))) (at (now (by .entry))) free bound (now (trail .entry)) from first → Found n (columns (now (release .entry)) (now (length .entry)) (now (due .entry))) (at (now (by .entry))) free bound (now (trail .exit)) r) ⌝ }
 {
     let mut s = first;
@@ -414,20 +416,20 @@ fn onward(
 
 // The search set out with a bound: the opening run, then blocks.
 fn set_out(
-    release: &[u32; 257],
-    length: &[u32; 257],
-    due: &[u32; 257],
-    by: &[u32; 256],
+    release: &[u32; Desk::PLACES],
+    length: &[u32; Desk::PLACES],
+    due: &[u32; Desk::PLACES],
+    by: &[u32; Desk::ROWS],
     n: usize,
     free: u32,
     bound: u32,
-    order: &mut [u32; 256],
+    order: &mut [u32; Desk::ROWS],
     trail: &mut [[u64; 10]],
 ) -> Reached
     requires { ⌜ Limits (columns (now release) (now length) (now due)) ⌝ }
     requires { ⌜ Tables n (columns (now release) (now length) (now due)) (at (now by)) ⌝ }
-    requires { ⌜ (free ≤ 10000000) × (lib.ListN.length (now order) ≡ 256) × (n ≤ lib.ListN.length (now trail)) ⌝ }
-    ensures { λ r. ⌜ (lib.ListN.length (now (order .exit)) ≡ 256) × (n ≤ lib.ListN.length (now (trail .exit))) × Found n (columns (now (release .entry)) (now (length .entry)) (now (due .entry))) (at (now (by .entry))) free bound (now (trail .exit)) r ⌝ }
+    requires { ⌜ EndsInTime free n × (lib.ListN.length (now order) ≡ mostRows) × (n ≤ lib.ListN.length (now trail)) ⌝ }
+    ensures { λ r. ⌜ (lib.ListN.length (now (order .exit)) ≡ mostRows) × (n ≤ lib.ListN.length (now (trail .exit))) × Found n (columns (now (release .entry)) (now (length .entry)) (now (due .entry))) (at (now (by .entry))) free bound (now (trail .exit)) r ⌝ }
 {
     let begin = picks::start(release, by, n, free);
     let first = run_on(release, length, due, by, n, begin, bound, order);
@@ -452,20 +454,20 @@ fn back_to(trail: &[[u64; 10]], depth: usize, bound: u32) -> usize
 // The search taken up again with a smaller bound: at the first block that holds the worst lateness, with block two in its place.
 // Where that was block two already, or the opening run, no order keeps the bound: the search stays where it came to, above the bound.
 fn resume(
-    release: &[u32; 257],
-    length: &[u32; 257],
-    due: &[u32; 257],
-    by: &[u32; 256],
+    release: &[u32; Desk::PLACES],
+    length: &[u32; Desk::PLACES],
+    due: &[u32; Desk::PLACES],
+    by: &[u32; Desk::ROWS],
     n: usize,
     reached: Reached,
     bound: u32,
-    order: &mut [u32; 256],
+    order: &mut [u32; Desk::ROWS],
     trail: &mut [[u64; 10]],
 ) -> Reached
     requires { ⌜ Limits (columns (now release) (now length) (now due)) ⌝ }
     requires { ⌜ Tables n (columns (now release) (now length) (now due)) (at (now by)) ⌝ }
-    requires { ⌜ (lib.ListN.length (now order) ≡ 256) × (n ≤ lib.ListN.length (now trail)) × ((free : ℕ) × (before : ℕ) × Lowered n (columns (now release) (now length) (now due)) (at (now by)) free before bound (now trail) reached) ⌝ }
-    ensures { λ r. ⌜ (lib.ListN.length (now (order .exit)) ≡ 256) × (n ≤ lib.ListN.length (now (trail .exit))) ×
+    requires { ⌜ (lib.ListN.length (now order) ≡ mostRows) × (n ≤ lib.ListN.length (now trail)) × ((free : ℕ) × (before : ℕ) × Lowered n (columns (now release) (now length) (now due)) (at (now by)) free before bound (now trail) reached) ⌝ }
+    ensures { λ r. ⌜ (lib.ListN.length (now (order .exit)) ≡ mostRows) × (n ≤ lib.ListN.length (now (trail .exit))) ×
         ((free before : ℕ) → Lowered n (columns (now (release .entry)) (now (length .entry)) (now (due .entry))) (at (now (by .entry))) free before bound (now (trail .entry)) reached → Found n (columns (now (release .entry)) (now (length .entry)) (now (due .entry))) (at (now (by .entry))) free bound (now (trail .exit)) r) ⌝ }
 {
     let k = back_to(trail, reached.depth, bound);
@@ -483,7 +485,7 @@ fn resume(
 }
 
 // What a desk without rows left over answers for a bound: its pair, where its worst lateness is within the bound.
-fn answer(desk: schedule::Desk, bound: u32) -> Planned
+fn answer(desk: Desk, bound: u32) -> Planned
     ensures { λ r. ⌜ r ≡ answerOf desk bound ⌝ }
 {
     if desk.worst <= bound {
@@ -494,22 +496,22 @@ fn answer(desk: schedule::Desk, bound: u32) -> Planned
 
 // The list of rows that stand by rank, with a trail of as many places as rows at least.
 fn list_along(
-    release: &[u32; 257],
-    length: &[u32; 257],
-    due: &[u32; 257],
-    by: &[u32; 256],
+    release: &[u32; Desk::PLACES],
+    length: &[u32; Desk::PLACES],
+    due: &[u32; Desk::PLACES],
+    by: &[u32; Desk::ROWS],
     n: usize,
     free: u32,
     trail: &mut [[u64; 10]],
 ) -> Front
     requires { ⌜ Limits (columns (now release) (now length) (now due)) ⌝ }
     requires { ⌜ Tables n (columns (now release) (now length) (now due)) (at (now by)) ⌝ }
-    requires { ⌜ (1 ≤ n) × (free ≤ 10000000) × (n ≤ lib.ListN.length (now trail)) × Agreeing (columns (now release) (now length) (now due)) (countFrom 1 n) ⌝ }
+    requires { ⌜ (1 ≤ n) × EndsInTime free n × (n ≤ lib.ListN.length (now trail)) × Agreeing (columns (now release) (now length) (now due)) (countFrom 1 n) ⌝ }
     ensures { λ r. ⌜ Listed (columns (now (release .entry)) (now (length .entry)) (now (due .entry))) n free r ⌝ }
 {
-    let mut order: [u32; 256] = [0; 256];
-    let mut ends: [u32; 256] = [0; 256];
-    let mut lates: [u32; 256] = [0; 256];
+    let mut order: [u32; Desk::ROWS] = [0; Desk::ROWS];
+    let mut ends: [u32; Desk::ROWS] = [0; Desk::ROWS];
+    let mut lates: [u32; Desk::ROWS] = [0; Desk::ROWS];
     let mut count: usize = 0;
     let mut bound: u32 = LARGEST_BOUND;
     let mut reached = set_out(release, length, due, by, n, free, bound, &mut order, trail);
@@ -539,16 +541,16 @@ fn list_along(
 
 // The list of rows that stand by rank. A small day gets a small trail, which is sooner laid out.
 fn list_ranked(
-    release: &[u32; 257],
-    length: &[u32; 257],
-    due: &[u32; 257],
-    by: &[u32; 256],
+    release: &[u32; Desk::PLACES],
+    length: &[u32; Desk::PLACES],
+    due: &[u32; Desk::PLACES],
+    by: &[u32; Desk::ROWS],
     n: usize,
     free: u32,
 ) -> Front
     requires { ⌜ Limits (columns (now release) (now length) (now due)) ⌝ }
     requires { ⌜ Tables n (columns (now release) (now length) (now due)) (at (now by)) ⌝ }
-    requires { ⌜ (1 ≤ n) × (free ≤ 10000000) × Agreeing (columns (now release) (now length) (now due)) (countFrom 1 n) ⌝ }
+    requires { ⌜ (1 ≤ n) × EndsInTime free n × Agreeing (columns (now release) (now length) (now due)) (countFrom 1 n) ⌝ }
     ensures { λ r. ⌜ Listed (columns (now (release .entry)) (now (length .entry)) (now (due .entry))) n free r ⌝ }
 {
     if n <= SMALL_DAY {
@@ -561,21 +563,21 @@ fn list_ranked(
 
 // The list: the pairs of the orders for ever smaller bounds, until no order keeps the bound.
 pub fn list_plans(
-    release: &[u32; 257],
-    length: &[u32; 257],
-    due: &[u32; 257],
+    release: &[u32; Desk::PLACES],
+    length: &[u32; Desk::PLACES],
+    due: &[u32; Desk::PLACES],
     n: usize,
     free: u32,
 ) -> Front
     requires { ⌜ Limits (columns (now release) (now length) (now due)) ⌝ }
-    requires { ⌜ (1 ≤ n) × (n ≤ 256) × (free ≤ 10000000) × Agreeing (columns (now release) (now length) (now due)) (countFrom 1 n) ⌝ }
+    requires { ⌜ (1 ≤ n) × (n ≤ mostRows) × EndsInTime free n × Agreeing (columns (now release) (now length) (now due)) (countFrom 1 n) ⌝ }
     ensures { λ r. ⌜ Listed (columns (now (release .entry)) (now (length .entry)) (now (due .entry))) n free r ⌝ }
 {
-    let mut rows: [u32; 257] = [0; 257];
-    let mut releases: [u32; 257] = [0; 257];
-    let mut lengths: [u32; 257] = [0; 257];
-    let mut dues: [u32; 257] = [0; 257];
-    let mut by: [u32; 256] = [0; 256];
+    let mut rows: [u32; Desk::PLACES] = [0; Desk::PLACES];
+    let mut releases: [u32; Desk::PLACES] = [0; Desk::PLACES];
+    let mut lengths: [u32; Desk::PLACES] = [0; Desk::PLACES];
+    let mut dues: [u32; Desk::PLACES] = [0; Desk::PLACES];
+    let mut by: [u32; Desk::ROWS] = [0; Desk::ROWS];
     ranks::tables(
         release,
         length,

@@ -6,6 +6,7 @@ use mathlib.Core.Bool.{Bool, true, false}
 use mathlib.Core.Path.{_≡_, ap, _∙_, subst}
 use mathlib.Core.List.{List}
 use Rattle.theory.specs.Jobs.{Job}
+use Rattle.schedule.specs.Limits.{mostRows}
 use Rattle.schedule.specs.Columns.{at, columns}
 use Rattle.picks.specs.Bits.{mark, Words}
 use Rattle.picks.specs.Standing.{Tables, Stands, Late}
@@ -17,7 +18,7 @@ Puts ws i more = (p : ℕ → Bool) → Words p ws → p i ≡ false → Words (
 
 module _ {n : ℕ} {job : ℕ → Job} {by : ℕ → ℕ} (r : Tables n job by) {next i : ℕ} (h : next < n) (w : i ≡ by next) where
   -- The next row ahead is one of the rows,
-  pub next-high : i ≤ 256
+  pub next-high : i ≤ mostRows
   next-high = omega (arith, r .by-release .rows next h .1, r .few)
 
   module _ {t : ℕ} {rest ws : List ℕ} (s : Stands n job by t rest next ws) where

@@ -7,6 +7,7 @@ use mathlib.Core.Path.{_≡_, refl, sym, _∙_, subst}
 use mathlib.Core.List.{List}
 use lib.ListN.{getD, replicate, length-replicate}
 use Rattle.theory.specs.Jobs.{Job}
+use Rattle.schedule.specs.Limits.{EndsInTime}
 use Rattle.schedule.specs.Rows.{countFrom}
 use Rattle.schedule.specs.Offset.{deskAt}
 use Rattle.schedule.specs.declared.Desk.{Desk}
@@ -38,8 +39,8 @@ at-start {n} {job} {by} r t = record {
 }
 
 -- The rows released by the free minute are put into the set, and so the desk sits.
-pub started : {n : ℕ} {job : ℕ → Job} {by : ℕ → ℕ} {free next : ℕ} {ready : List ℕ} {d : Desk} → free ≤ 10000000 → d ≡ deskAt free →
+pub started : {n : ℕ} {job : ℕ → Job} {by : ℕ → ℕ} {free next : ℕ} {ready : List ℕ} {d : Desk} → EndsInTime free n → d ≡ deskAt free →
     Stands n job by free (countFrom 1 n) next ready × Late n job by free next → Sits n job by (countFrom 1 n) (record { desk = d; count = 0; next = next; ready = ready })
 started {n} {job} {by} {free} {next} {ready} h e a =
     subst (λ (d : Desk). Sits n job by (countFrom 1 n) (record { desk = d; count = 0; next = next; ready = ready })) (sym e)
-    (record { stands = a .0; late = a .1; count = omega (arith, length-count 1 n); minutes = omega arith; lates = omega arith })
+    (record { stands = a .0; late = a .1; count = omega (arith, length-count 1 n); minutes = omega (arith, length-count 1 n); lates = omega arith })

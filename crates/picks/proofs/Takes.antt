@@ -6,6 +6,7 @@ use mathlib.Core.Bool.{Bool, true, false}
 use mathlib.Core.Path.{_≡_, refl, ap}
 use mathlib.Core.List.{List, List·Memᴰ}
 use Rattle.theory.specs.Jobs.{Job, finish}
+use Rattle.schedule.specs.Limits.{mostRows}
 use Rattle.schedule.specs.Offset.{deskAfter}
 use Rattle.schedule.specs.Columns.{Limits}
 use Rattle.schedule.specs.declared.Desk.{Desk}
@@ -21,12 +22,12 @@ Away ws i less = (p : ℕ → Bool) → Words p ws → p i ≡ true → Words (m
 
 module _ {n : ℕ} {job : ℕ → Job} {by : ℕ → ℕ} (r : Tables n job by) {rest : List ℕ} {s : Standing} (g : Sits n job by rest s) {i : ℕ} (m : List·Memᴰ i rest) where
   -- The row is one of the columns' rows, and the numbers are small.
-  pub row-high : i ≤ 256
+  pub row-high : i ≤ mostRows
   row-high = omega (arith, g .stands .rows i m .1, r .few)
 
   pub can-take : Limits job → (s .desk .minute ≤ 1000000000) × (job i .release ≤ 1000000000) × (job i .length ≤ 1000000000) × (job i .due ≤ 2147483647)
   can-take k = (
-    omega (arith, g .minutes, g .count, r .few),
+    omega (arith, g .minutes),
     omega (arith, k .releases i),
     omega (arith, k .lengths i),
     omega (arith, k .dues i),
@@ -58,8 +59,8 @@ module _ {n : ℕ} {job : ℕ → Job} {by : ℕ → ℕ} (r : Tables n job by) 
           stands = stands-away r (a .0) on (f (a .0 .set) (a .0 .words) on);
           late = a .1;
           count = omega (arith, length-without i rest m, g .count);
-          minutes = omega (arith, end, g .minutes, k .releases i, k .lengths i);
-          lates = omega (arith, ap (λ (d : Desk). d .worst) e, g .minutes, g .lates, k .releases i, k .lengths i);
+          minutes = omega (arith, end, g .minutes, length-without i rest m, g .count, r .few, k .releases i, k .lengths i);
+          lates = omega (arith, ap (λ (d : Desk). d .worst) e, g .minutes, length-without i rest m, g .lates, k .releases i, k .lengths i);
         };
         desk = e;
         count = refl;

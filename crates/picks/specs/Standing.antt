@@ -6,6 +6,7 @@ use mathlib.Core.Path.{_≡_}
 use mathlib.Core.List.{List, [], _∷_, List·Memᴰ}
 use lib.ListN.{length}
 use Rattle.theory.specs.Jobs.{Job}
+use Rattle.schedule.specs.Limits.{mostRows, EndsInTime, latestRaised}
 use Rattle.schedule.specs.Rows.{without}
 use Rattle.schedule.specs.Offset.{deskAfter}
 use Rattle.schedule.specs.Ranks.{InRank, ByRelease}
@@ -20,7 +21,7 @@ Apart (i ∷ is) = (List·Memᴰ i is → ⊥) × Apart is
 module _ (n : ℕ) (job : ℕ → Job) (by : ℕ → ℕ) where
   -- The tables that picks go by: the rows 1 to n stand by rank, and `by` has them by release.
   pub record Tables : Type 0 where
-    pub few : n ≤ 256
+    pub few : n ≤ mostRows
     pub in-rank : InRank n job
     pub by-release : ByRelease n job by
 
@@ -39,13 +40,13 @@ module _ (n : ℕ) (job : ℕ → Job) (by : ℕ → ℕ) where
   abbrev pub Late : ℕ → ℕ → Type 0
   Late t next = (k : ℕ) → next ≤ k → k < n → t < job (by k) .release
 
-  -- A desk with the rows `rest` left over, of n; its minute and worst lateness are within what the rows taken allow.
+  -- A desk with the rows `rest` left over, of n; with them it ends in time, and its worst lateness is no later than that.
   pub record Sits (rest : List ℕ) (s : Standing) : Type 0 where
     pub stands : Stands (s .desk .minute) rest (s .next) (s .ready)
     pub late : Late (s .desk .minute) (s .next)
     pub count : s .count + length rest ≡ n
-    pub minutes : s .desk .minute ≤ 10000000 + 30000 * s .count
-    pub lates : s .desk .worst ≤ 2157483648 + 30000 * s .count
+    pub minutes : EndsInTime (s .desk .minute) (length rest)
+    pub lates : s .desk .worst ≤ latestRaised
 
   -- The desk r is the desk s after the row i of the rows `rest`.
   pub record Taken (rest : List ℕ) (s : Standing) (i : ℕ) (r : Standing) : Type 0 where

@@ -5,16 +5,18 @@ ghost use mathlib.Core.Bool.{Bool, true, false};
 ghost use mathlib.Core.List.{List, List·Memᴰ};
 ghost use Prim.Native.Nat.{ℕ, _+_, _≤_, _<_};
 ghost use Rattle.theory.specs.Jobs.{Job};
+ghost use Rattle.schedule.specs.Limits.{mostRows, EndsInTime};
 ghost use Rattle.schedule.specs.Rows.{countFrom};
 ghost use Rattle.schedule.specs.Picks.{firstPick, secondPick};
 ghost use Rattle.schedule.specs.Offset.{deskAt};
 ghost use Rattle.schedule.specs.Columns.{at, columns, Limits};
 ghost use Rattle.picks.specs.Bits.{Words, Least, mark};
 ghost use Rattle.picks.specs.Standing.{Tables, Stands, Late, Sits, Taken};
+use schedule::Desk;
 
 // A desk in planning: its minute and worst lateness, the rows taken, the place in the rows by release, and the released rows left over.
 pub struct Standing {
-    pub desk: schedule::Desk,
+    pub desk: Desk,
     pub count: usize,
     pub next: usize,
     pub ready: [u64; 5],
@@ -28,7 +30,7 @@ pub struct Picked {
 
 // The desk after a row, and the place in the rows by release.
 pub struct Moved {
-    pub desk: schedule::Desk,
+    pub desk: Desk,
     pub next: usize,
 }
 
@@ -92,8 +94,8 @@ fn wide(x: u32) -> usize
 }
 
 // The first pick, from the least row j of the set, 0 for none: it, or the next row ahead, or 0.
-fn front(by: &[u32; 256], n: usize, j: usize, next: usize) -> usize
-    requires { ⌜ n ≤ 256 ⌝ }
+fn front(by: &[u32; Desk::ROWS], n: usize, j: usize, next: usize) -> usize
+    requires { ⌜ n ≤ mostRows ⌝ }
     ensures { λ r. ⌜ ((job : ℕ → Job) (t : ℕ) (rest ready : List ℕ) → Tables n job (at (now (by .entry))) →
         (s : Stands n job (at (now (by .entry))) t rest next ready) → Least (s .set) j → Late n job (at (now (by .entry))) t next → r ≡ firstPick job t rest) ⌝ }
 {
@@ -107,8 +109,8 @@ fn front(by: &[u32; 256], n: usize, j: usize, next: usize) -> usize
 }
 
 // Both picks.
-pub fn picks(by: &[u32; 256], n: usize, ready: &[u64; 5], next: usize) -> Picked
-    requires { ⌜ (n ≤ 256) × ((job : ℕ → Job) × (t : ℕ) × (rest : List ℕ) × Tables n job (at (now by)) × Stands n job (at (now by)) t rest next (now ready)) ⌝ }
+pub fn picks(by: &[u32; Desk::ROWS], n: usize, ready: &[u64; 5], next: usize) -> Picked
+    requires { ⌜ (n ≤ mostRows) × ((job : ℕ → Job) × (t : ℕ) × (rest : List ℕ) × Tables n job (at (now by)) × Stands n job (at (now by)) t rest next (now ready)) ⌝ }
     ensures { λ r. ⌜ ((job : ℕ → Job) (t : ℕ) (rest : List ℕ) → Tables n job (at (now (by .entry))) →
         Stands n job (at (now (by .entry))) t rest next (now (ready .entry)) → Late n job (at (now (by .entry))) t next →
         (r .first ≡ firstPick job t rest) × (r .second ≡ secondPick job t rest)) ⌝ }
@@ -136,8 +138,8 @@ pub fn picks(by: &[u32; 256], n: usize, ready: &[u64; 5], next: usize) -> Picked
 
 // The rows ahead that are released by the minute t are put into the set; the place from which on rows are ahead then.
 fn advance(
-    release: &[u32; 257],
-    by: &[u32; 256],
+    release: &[u32; Desk::PLACES],
+    by: &[u32; Desk::ROWS],
     n: usize,
     ready: &mut [u64; 5],
     from: usize,
@@ -161,12 +163,12 @@ fn advance(
 
 // Row i is taken: the desk moves to its end, the rows released by then are put into the set, and i is taken out of it.
 pub fn take(
-    release: &[u32; 257],
-    length: &[u32; 257],
-    due: &[u32; 257],
-    by: &[u32; 256],
+    release: &[u32; Desk::PLACES],
+    length: &[u32; Desk::PLACES],
+    due: &[u32; Desk::PLACES],
+    by: &[u32; Desk::ROWS],
     n: usize,
-    desk: schedule::Desk,
+    desk: Desk,
     next: usize,
     ready: &mut [u64; 5],
     i: usize,
@@ -190,15 +192,15 @@ pub fn take(
 }
 
 // A desk with nothing done yet.
-pub fn start(release: &[u32; 257], by: &[u32; 256], n: usize, free: u32) -> Standing
-    requires { ⌜ ((length due : List ℕ) × Tables n (columns (now release) length due) (at (now by))) × (free ≤ 10000000) ⌝ }
+pub fn start(release: &[u32; Desk::PLACES], by: &[u32; Desk::ROWS], n: usize, free: u32) -> Standing
+    requires { ⌜ ((length due : List ℕ) × Tables n (columns (now release) length due) (at (now by))) × EndsInTime free n ⌝ }
     ensures { λ r. ⌜ ((length due : List ℕ) → Tables n (columns (now (release .entry)) length due) (at (now (by .entry))) → Sits n (columns (now (release .entry)) length due) (at (now (by .entry))) (countFrom 1 n) r) ×
         (r .desk ≡ deskAt free) × (r .count ≡ 0) ⌝ }
 {
     let mut ready: [u64; 5] = [0; 5];
     let next = advance(release, by, n, &mut ready, 0, free);
     Standing {
-        desk: schedule::Desk::at(free),
+        desk: Desk::at(free),
         count: 0,
         next: next,
         ready: ready,

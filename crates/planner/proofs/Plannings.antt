@@ -47,13 +47,13 @@ module _ {rows : List Row} {c : Columns} (a : Apart rows c) where
   plannable {Rule} n free e b = record {
     limits = record {
       releases = λ i. subst (λ (j : Job). j .release ≤ 10000000) (sym (a .jobs i)) (b .limits i .0);
-      lengths = λ i. subst (λ (j : Job). j .length ≤ 30000) (sym (a .jobs i)) (b .limits i .1);
+      lengths = λ i. subst (λ (j : Job). j .length ≤ 30030) (sym (a .jobs i)) (omega (arith, b .limits i .1));
       dues = λ i. subst (λ (j : Job). j .due ≤ 20000000) (sym (a .jobs i)) (b .limits i .2);
     };
     rule = subst (λ (m : ℕ). Rule (jobsOf c) (countFrom 1 m)) (sym e) (subst (λ (f : ℕ → Job). Rule f (allRows rows)) (sym same-jobs) (b .rule));
     some = omega (arith, b .some-row);
     few = omega (arith, b .few-rows);
-    early = b .early;
+    early = omega (arith, b .early);
     releases = a .releases;
     lengths = a .lengths;
     dues = a .dues;

@@ -20,7 +20,7 @@ pub record Plannable (Rule : (ℕ → Job) → List ℕ → Type 0) (c : Columns
   pub rule : Rule (jobsOf c) (countFrom 1 n)
   pub some : 1 ≤ n
   pub few : n ≤ 256
-  pub early : free ≤ 10000000
+  pub early : free ≤ 20030030
   pub releases : length (c .release) ≡ 257
   pub lengths : length (c .length) ≡ 257
   pub dues : length (c .due) ≡ 257

@@ -54,7 +54,7 @@ pub fn word_of(late: u32) -> u32
 }
 
 // The words of the plans, to the front of a lent buffer.
-fn write_plans(front: Front, result: &mut [u32])
+pub fn write_plans(front: Front, result: &mut [u32])
     requires { ⌜ Sized front × (2 * front .count ≤ lib.ListN.length (now result)) ⌝ }
     ensures { λ _. ⌜ now (result .exit) ≡ written (planWords (held front)) (now (result .entry)) ⌝ }
 {
@@ -154,7 +154,7 @@ pub fn posting_tests(n: usize, posting: &[u32]) -> Tested
 }
 
 // The list of the rows in columns.
-fn plans_of(c: Columns, n: usize, free: u32) -> Front
+pub fn plans_of(c: Columns, n: usize, free: u32) -> Front
     requires { ⌜ Plannable Agreeing c n free ⌝ }
     ensures { λ r. ⌜ Sized r × (held r ≡ plans (jobsOf c) free (countFrom 1 n)) ⌝ }
 {
@@ -185,7 +185,7 @@ fn order_into(c: Columns, n: usize, free: u32, bound: u32, result: &mut [u32]) -
 // The desk after a posting.
 pub fn posted(c: Columns, free: u32, posting: &[u32]) -> Desk
     requires { ⌜ Limits (jobsOf c) × (lib.ListN.length (c .release) ≡ 257) × (lib.ListN.length (c .length) ≡ 257) × (lib.ListN.length (c .due) ≡ 257) ⌝ }
-    requires { ⌜ (free ≤ 10000000) × (lib.ListN.length (now posting) ≤ 256) × ((k : ℕ) → getD (now posting) k 0 ≤ 256) ⌝ }
+    requires { ⌜ (free ≤ 20030030) × (lib.ListN.length (now posting) ≤ 256) × ((k : ℕ) → getD (now posting) k 0 ≤ 256) ⌝ }
     ensures { λ r. ⌜ r ≡ deskThrough (jobsOf c) (deskAt free) (now (posting .entry)) ⌝ }
 {
     let release = c.release;

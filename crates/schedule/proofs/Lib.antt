@@ -21,3 +21,4 @@ pub mod Ranges
 pub mod Matches
 pub mod RankPicks
 pub mod Renumbered
+pub mod Raised

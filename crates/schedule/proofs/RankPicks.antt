@@ -1,6 +1,6 @@
 -- Picks, runs and blocks among ranks and among their rows are the same.
 -- Assumes nothing.
-use Prim.Native.Nat.{ℕ, zero, suc, _≤_, _<_, compare, Ordering, Ordering·lt, Ordering·eq, Ordering·gt}
+use Prim.Native.Nat.{ℕ, zero, suc, _+_, _≤_, _<_, compare, Ordering, Ordering·lt, Ordering·eq, Ordering·gt}
 use native.Mathlib.Omega.{arith}
 use native.Mathlib.Decide.{decLt}
 use mathlib.Core.Bool.{Bool, true, false}
@@ -16,9 +16,10 @@ use Rattle.schedule.proofs.Orders.{length-without, mem-without}
 use Rattle.schedule.proofs.PickLaws.{Ahead, ahead-same, before-ahead, least-mem, least-ahead, run-step, run-stop}
 use Rattle.schedule.proofs.Matches.{Rank, Matches, row-in, rank-of, match-without}
 
--- Rows 1 to n numbered anew: `row k` is the row of rank k, and rank k has its job.
+-- Rows numbered anew from 1 to n: `row k` is the row of the number k, which has its job, and of rows with equal dues and earliest ends the smaller has
+-- the smaller number.
 pub record Renumbers (n : ℕ) (job job′ : ℕ → Job) (row : ℕ → ℕ) : Type 0 where
-  pub by-rank : ByRank n job row
+  pub ties : (k l : ℕ) → 1 ≤ k → k < l → l ≤ n → job (row l) .due ≤ job (row k) .due → earliestEnd (job (row l)) ≤ earliestEnd (job (row k)) → row k ≤ row l
   pub same : (k : ℕ) → 1 ≤ k → k ≤ n → job′ k ≡ job (row k)
 
 -- A comparison that is no greater, and what follows it.
@@ -29,6 +30,14 @@ ahead-next i j next h e = go (compare i j) (compared i j)
     go Ordering·lt c = tt
     go Ordering·eq c = is-true next e
     go Ordering·gt c = let z : ⊥ = omega arith in absurd z
+
+-- Numbered by rank, ties are so.
+pub rank-ties : {n : ℕ} {job : ℕ → Job} {row : ℕ → ℕ} → ByRank n job row → (k l : ℕ) → 1 ≤ k → k < l → l ≤ n →
+    job (row l) .due ≤ job (row k) .due → earliestEnd (job (row l)) ≤ earliestEnd (job (row k)) → row k ≤ row l
+unfolding before ready
+rank-ties {n} {job} {row} byRank k l h c g d e =
+    let t : ℕ = job (row k) .release + job (row l) .release in
+    before-ahead job t (row k) (row l) (ahead-next (ready (job (row k)) t) (ready (job (row l)) t) (outranks job (row k) (row l)) (omega arith) (byRank .ranked k l h c g)) .by-row (omega arith) d e
 
 module _ {n : ℕ} {job job′ : ℕ → Job} {row : ℕ → ℕ} (new : Renumbers n job job′ row) where
   pub job-of : (k : ℕ) → Rank n k → job (row k) ≡ job′ k
@@ -52,9 +61,7 @@ module _ {n : ℕ} {job job′ : ℕ → Job} {row : ℕ → ℕ} (new : Renumbe
 
       last : ready (job (row l)) t ≤ ready (job (row k)) t → job (row l) .due ≤ job (row k) .due → earliestEnd (job (row l)) ≤ earliestEnd (job (row k)) →
           Dec (k < l) → row k ≤ row l
-      last r d e (yes c) =
-          let w = new .by-rank .ranked k l (h .0) c (g .1) in
-          before-ahead job t (row k) (row l) (ahead-next (ready (job (row k)) t) (ready (job (row l)) t) (outranks job (row k) (row l)) sooner w) .by-row r d e
+      last r d e (yes c) = new .ties k l (h .0) c (g .1) d e
       last r d e (no c) = let s : k ≡ l = omega (arith, tie r d e) in omega (arith, ap row s)
 
   -- A row i and the rank k that is its own, one of some ranks.

@@ -1,4 +1,4 @@
--- Rows numbered anew by rank: the same orders, pairs and list of plans.
+-- Rows numbered anew: the same orders, pairs and list of plans. By rank; and rows left over, numbered from 1 on as they stand.
 -- Assumes nothing.
 use Prim.Native.Nat.{ℕ, zero, suc, _≤_, _<_, compare, Ordering, Ordering·lt, Ordering·eq, Ordering·gt}
 use native.Mathlib.Omega.{arith}
@@ -21,7 +21,7 @@ use Rattle.schedule.proofs.Orders.{Takes, takes-mem}
 use Rattle.schedule.proofs.Numbers.{length-count}
 use Rattle.schedule.proofs.Search.{Halted, ran, FoundOrder, Found, block-is, blocks-one, blocks-two, blocks-none, order-found}
 use Rattle.schedule.proofs.Matches.{Rank, Matches, row-in, match-left, match-all}
-use Rattle.schedule.proofs.RankPicks.{Renumbers, job-of, Picked, first-picked, second-picked, same-run, same-block}
+use Rattle.schedule.proofs.RankPicks.{Renumbers, rank-ties, job-of, Picked, first-picked, second-picked, same-run, same-block}
 use Rattle.schedule.proofs.Promise.{same-list}
 
 -- The order for a bound, by whether its run keeps the bound.
@@ -50,8 +50,8 @@ last-won Ordering·eq Ordering·gt b c h e = e
 last-won Ordering·gt p b c h e = e
 
 module _ (n : ℕ) (job job′ : ℕ → Job) (row : ℕ → ℕ) (byRank : ByRank n job row) (same : (k : ℕ) → 1 ≤ k → k ≤ n → job′ k ≡ job (row k)) where
-  new : Renumbers n job job′ row
-  new = record { by-rank = byRank; same = same }
+  pub by-rank : Renumbers n job job′ row
+  by-rank = record { ties = rank-ties byRank; same = same }
 
   -- The rows numbered anew stand by rank.
   pub in-rank : InRank n job′
@@ -62,6 +62,8 @@ module _ (n : ℕ) (job job′ : ℕ → Job) (row : ℕ → ℕ) (byRank : ByRa
       (lt→ltb k l g) (byRank .ranked k l h g f)
       )
 
+-- `left` are the rows, each with one number.
+module _ {n : ℕ} {job job′ : ℕ → Job} {row : ℕ → ℕ} {left : List ℕ} (new : Renumbers n job job′ row) (all : Matches n row left (countFrom 1 n)) where
   abbrev Ranks : List ℕ → Type 0
   Ranks o = (k : ℕ) → List·Memᴰ k o → Rank n k
 
@@ -162,33 +164,33 @@ module _ (n : ℕ) (job job′ : ℕ → Job) (row : ℕ → ℕ) (byRank : ByRa
         step false e = rw (order-unkept job t rows y (kept ∙ e), order-unkept job′ t ranks y e)
 
   -- The order for a bound is the same, and of the same rows.
-  pub renumbered : (t : ℕ) (y : ℤ) → orderFor job t (countFrom 1 n) y ≡ Option·map (map row) (orderFor job′ t (countFrom 1 n) y)
-  renumbered t y = order y t (countFrom 1 n) (countFrom 1 n) (match-all byRank)
+  pub renumbered : (t : ℕ) (y : ℤ) → orderFor job t left y ≡ Option·map (map row) (orderFor job′ t (countFrom 1 n) y)
+  renumbered t y = order y t left (countFrom 1 n) all
 
   pub order-rows : (t : ℕ) (y : ℤ) (o : List ℕ) → orderFor job′ t (countFrom 1 n) y ≡ some o → (k : ℕ) → List·Memᴰ k o → (1 ≤ k) × (k ≤ n)
   order-rows t y o e k m =
       let f : FoundOrder job′ y t (countFrom 1 n) o = subst (Found job′ y t (countFrom 1 n)) e (order-found job′ t (countFrom 1 n) y) in
-      match-all byRank .among k (takes-mem o (countFrom 1 n) (f .takes) k m)
+      all .among k (takes-mem o (countFrom 1 n) (f .takes) k m)
 
-  pub agreeing : Agreeing job (countFrom 1 n) → Agreeing job′ (countFrom 1 n)
+  pub agreeing : Agreeing job left → Agreeing job′ (countFrom 1 n)
   agreeing a k l h g =
-      let m = match-all byRank in
+      let m = all in
       rw (← job-of new k (m .among k h), ← job-of new l (m .among l g)) (a (row k) (row l) (row-in m h) (row-in m g))
 
   -- The list by bounds, and so the list of plans.
-  same-from : (t c : ℕ) (y : ℤ) → listFrom job t (countFrom 1 n) c y ≡ listFrom job′ t (countFrom 1 n) c y
+  same-from : (t c : ℕ) (y : ℤ) → listFrom job t left c y ≡ listFrom job′ t (countFrom 1 n) c y
   unfolding listFrom
   same-from t zero y = refl
   same-from t (suc c) y = step (orderFor job′ t (countFrom 1 n) y) refl (same-from t c)
     where
-      step : (o : Option (List ℕ)) → orderFor job′ t (countFrom 1 n) y ≡ o → ((z : ℤ) → listFrom job t (countFrom 1 n) c z ≡ listFrom job′ t (countFrom 1 n) c z) →
-          listFrom job t (countFrom 1 n) (suc c) y ≡ listFrom job′ t (countFrom 1 n) (suc c) y
+      step : (o : Option (List ℕ)) → orderFor job′ t (countFrom 1 n) y ≡ o → ((z : ℤ) → listFrom job t left c z ≡ listFrom job′ t (countFrom 1 n) c z) →
+          listFrom job t left (suc c) y ≡ listFrom job′ t (countFrom 1 n) (suc c) y
       step none e f = rw (renumbered t y, e, listFrom)
       step (some o) e f = let h = order-rows t y o e in rw (renumbered t y, e, listFrom, end-renumbered t o h, lates t o h, f)
 
-  pub same-plans : (t : ℕ) → Agreeing job (countFrom 1 n) → 0 < n → Fits32 job t (countFrom 1 n) → Fits32 job′ t (countFrom 1 n) → plans job t (countFrom 1 n) ≡ plans job′ t (countFrom 1 n)
+  pub same-plans : (t : ℕ) → Agreeing job left → 0 < n → Fits32 job t left → Fits32 job′ t (countFrom 1 n) → plans job t left ≡ plans job′ t (countFrom 1 n)
   unfolding listByBounds
   same-plans t a l f g =
       let some-row : 0 < length (countFrom 1 n) = omega (arith, length-count 1 n) in
-      sym (same-list job t (countFrom 1 n) a some-row f) ∙ same-from t 4294967296 (pos 2147483647) ∙
+      sym (same-list job t left a (omega (arith, all .lengths)) f) ∙ same-from t 4294967296 (pos 2147483647) ∙
       same-list job′ t (countFrom 1 n) (agreeing a) some-row g

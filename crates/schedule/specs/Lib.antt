@@ -1,3 +1,4 @@
+pub mod Limits
 pub mod Rows
 pub mod Desk
 pub mod Picks

@@ -35,6 +35,9 @@ impl Desk {
     // The most rows of a book.
     pub const ROWS: usize = 256;
 
+    // The places of a column that row numbers read: place 0 is for no row.
+    pub const PLACES: usize = 257;
+
     // The latest free minute and release, and the latest due.
     pub const MINUTES: u32 = 10_000_000;
 

@@ -1,5 +1,6 @@
 -- `end_tests` meets its contract: count, then tail.
 -- Assumes nothing.
+use mathlib.Core.Path.{refl}
 use borrow.Author.Needs.{needs}
 use Rattle.book.specs.Rows.{endTests}
 use Rattle.book.proofs.end_tests.Statement.{statement}
@@ -28,7 +29,7 @@ then-requires c κs = search needs
 
 returns : tie.Need-returns
 unfolding endTests
-returns c = cc
+returns c = rw (c .then .ensures, c .before .refuse-if2 .ensures, c .before .before .refuse-if .ensures, c .before .before .before .value-of .ensures, c .before .before .before .before .word-at .ensures) refl
 
 pub end-tests-spec : {M : Type 1} → statement M
 end-tests-spec =

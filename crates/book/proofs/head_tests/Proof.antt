@@ -1,5 +1,6 @@
 -- `head_tests` meets its contract: the tests of the free minute, then those of the pace.
 -- Assumes nothing.
+use mathlib.Core.Path.{refl}
 use borrow.Author.Needs.{needs}
 use Rattle.book.specs.Book.{headTests}
 use Rattle.book.proofs.head_tests.Statement.{statement}
@@ -16,7 +17,7 @@ then-requires c κs = search needs
 
 returns : tie.Need-returns
 unfolding headTests
-returns c = cc
+returns c = rw (c .then .ensures, c .before .word-tests2 .ensures, c .before .before .word-tests .ensures) refl
 
 pub head-tests-spec : {M : Type 1} → statement M
 head-tests-spec =

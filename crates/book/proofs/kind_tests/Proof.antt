@@ -1,5 +1,6 @@
 -- `kind_tests` meets its contract: cut, then kind.
 -- Assumes nothing.
+use mathlib.Core.Path.{refl}
 use borrow.Author.Needs.{needs}
 use Rattle.book.specs.Words.{kindTests}
 use Rattle.book.proofs.kind_tests.Statement.{statement}
@@ -28,7 +29,7 @@ then-requires c κs = search needs
 
 returns : tie.Need-returns
 unfolding kindTests
-returns c = cc
+returns c = rw (c .then .ensures, c .before .refuse-if2 .ensures, c .before .before .kind-of .ensures, c .before .before .before .word-at .ensures, c .before .before .before .before .refuse-if .ensures) refl
 
 pub kind-tests-spec : {M : Type 1} → statement M
 kind-tests-spec =

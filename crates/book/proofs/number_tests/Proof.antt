@@ -1,7 +1,7 @@
 -- `number_tests` meets its contract: cut, kind, full, twice; the column has as many numbers as there are rows.
 -- Assumes nothing.
 use native.Mathlib.Omega.{arith}
-use mathlib.Core.Path.{_≡_}
+use mathlib.Core.Path.{_≡_, refl}
 use lib.ListN.{length, take, length-take}
 use borrow.Author.Needs.{needs}
 use Rattle.book.specs.Rows.{numberTests}
@@ -37,7 +37,7 @@ unfolding numberTests
 returns c =
     let a = c .before .before .before .before .before .before .before .before .before .args in
     let n : length (take (a .count) (a .numbers .now)) ≡ a .count = omega (arith, length-take (a .count) (a .numbers .now)) in
-    cc
+    rw (c .then2 .ensures, c .before .then .ensures, c .before .before .refuse-if2 .ensures, c .before .before .before .number-stands .ensures, c .before .before .before .before .value-of .ensures, c .before .before .before .before .before .word-at .ensures, c .before .before .before .before .before .before .refuse-if .ensures, c .before .before .before .before .before .before .before .kind-tests .ensures, n) refl
 
 pub number-tests-spec : {M : Type 1} → statement M
 number-tests-spec =

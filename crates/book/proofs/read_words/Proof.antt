@@ -2,7 +2,7 @@
 -- Assumes nothing.
 use denote.Ref.{now}
 use native.Mathlib.Omega.{arith}
-use mathlib.Core.Path.{_≡_, ap, sym, _∙_}
+use mathlib.Core.Path.{_≡_, refl, sym, ap, _∙_}
 use borrow.Author.Needs.{needs}
 use Rattle.book.specs.Words.{value, word}
 use Rattle.book.specs.Book.{readingOf}
@@ -49,7 +49,7 @@ value-of-requires-2 c κs = search needs
 read-rows-requires : tie.Need-read-rows-requires
 read-rows-requires c κs =
     let f = fits (c .before .before .before .before) in
-    let p : c .value-of2 .result ≡ value (word (now (c .before .before .before .before .before .before .before .before .args .book)) 1) = cc in
+    let p : c .value-of2 .result ≡ value (word (now (c .before .before .before .before .before .before .before .before .args .book)) 1) = c .value-of2 .ensures ∙ ap value (c .before .word-at2 .ensures) in
     (omega (arith, f .pace .there), omega (arith, f .pace .least), omega (arith, f .pace .most))
 
 returns-2 : tie.Need-returns-2
@@ -57,7 +57,8 @@ returns-2 c =
     let e = c .before .before .before .before .before in
     let h = e .before .before .head-tests in
     let ws = now (e .before .before .before .before .args .book) in
-    let rows : c .read-rows .result ≡ readingOf (bookRows ws) = cc in
+    let rows : c .read-rows .result ≡ readingOf (bookRows ws) =
+    rw (c .read-rows .ensures, c .before .value-of2 .ensures, c .before .before .word-at2 .ensures, c .before .before .before .value-of .ensures, c .before .before .before .before .word-at .ensures) refl in
     rows ∙ ap readingOf (sym (head-passed ws (h .result) (h .ensures) (e .enum-told .given .1)))
 
 pub read-words-spec : {M : Type 1} → statement M

@@ -2,7 +2,8 @@
 -- Assumes nothing.
 use denote.Ref.{now}
 use native.Mathlib.Omega.{arith}
-use mathlib.Core.Path.{_≡_, sym, subst}
+use Prim.Native.Nat.{ℕ}
+use mathlib.Core.Path.{_≡_, refl, _∙_, ap, sym, subst}
 use borrow.Author.Needs.{needs}
 use Rattle.book.specs.Words.{value, word}
 use Rattle.book.specs.Due.{classOf, Margined}
@@ -44,13 +45,31 @@ value-of-requires-4 c κs = search needs
 due-of-requires : tie.Need-due-of-requires
 due-of-requires c κs =
     let s = c .before .before .before .before .before .before .before .before .before .before .before in
-    let class : c .before .before .class-of .result ≡ classOf (now (s .args .rest)) = cc in
-    let release : c .before .before .before .before .before .before .value-of2 .result ≡ value (word (now (s .args .rest)) 1) = cc in
-    let length : c .before .before .before .length-of .result ≡ lengthOf (value (word (now (s .args .rest)) 2)) (s .args .pace) = cc in
-    (subst Margined (sym class) (s .pre .0), omega (arith, s .pre .1), rw length (length-most (value (word (now (s .args .rest)) 2)) (s .args .pace) (s .pre .2) (s .pre .3)))
+    let class : c .before .before .class-of .result ≡ classOf (now (s .args .rest)) = c .before .before .class-of .ensures in
+    let release : c .before .before .before .before .before .before .value-of2 .result ≡ value (word (now (s .args .rest)) 1) =
+    c .before .before .before .before .before .before .value-of2 .ensures ∙ ap value (c .before .before .before .before .before .before .before .word-at2 .ensures) in
+    let pages : c .before .before .before .before .value-of3 .result ≡ value (word (now (s .args .rest)) 2) =
+    c .before .before .before .before .value-of3 .ensures ∙ ap value (c .before .before .before .before .before .word-at3 .ensures) in
+    let length : c .before .before .before .length-of .result ≡ lengthOf (value (word (now (s .args .rest)) 2)) (s .args .pace) =
+    c .before .before .before .length-of .ensures ∙ ap (λ (n : ℕ). lengthOf n (s .args .pace)) pages in
+    (subst Margined (sym class) (s .pre .0), rw release (s .pre .1), rw length (length-most (value (word (now (s .args .rest)) 2)) (s .args .pace) (s .pre .2) (s .pre .3)))
 
 returns : tie.Need-returns
-returns c = cc
+returns c =
+    let d = c .before in
+    rw (
+      c .due-of .ensures,
+      d .value-of4 .ensures,
+      d .before .word-at4 .ensures,
+      d .before .before .class-of .ensures,
+      d .before .before .before .length-of .ensures,
+      d .before .before .before .before .value-of3 .ensures,
+      d .before .before .before .before .before .word-at3 .ensures,
+      d .before .before .before .before .before .before .value-of2 .ensures,
+      d .before .before .before .before .before .before .before .word-at2 .ensures,
+      d .before .before .before .before .before .before .before .before .value-of .ensures,
+      d .before .before .before .before .before .before .before .before .before .word-at .ensures,
+    ) refl
 
 pub row-of-spec : {M : Type 1} → statement M
 row-of-spec =

@@ -1,5 +1,6 @@
 -- `row_tests` meets its contract: the tests of number, release, pages and due, one after the other.
 -- Assumes nothing.
+use mathlib.Core.Path.{refl}
 use borrow.Author.Needs.{needs}
 use Rattle.book.specs.Rows.{rowTests}
 use Rattle.book.proofs.row_tests.Statement.{statement}
@@ -28,7 +29,7 @@ then-requires-3 c κs = search needs
 
 returns : tie.Need-returns
 unfolding rowTests
-returns c = cc
+returns c = rw (c .then3 .ensures, c .before .then2 .ensures, c .before .before .then .ensures, c .before .before .before .due-tests .ensures, c .before .before .before .before .word-tests2 .ensures, c .before .before .before .before .before .word-tests .ensures, c .before .before .before .before .before .before .number-tests .ensures) refl
 
 pub row-tests-spec : {M : Type 1} → statement M
 row-tests-spec =

@@ -1,5 +1,6 @@
 -- `word_tests` meets its contract: cut and kind, then range.
 -- Assumes nothing.
+use mathlib.Core.Path.{refl}
 use borrow.Author.Needs.{needs}
 use Rattle.book.specs.Words.{wordTests}
 use Rattle.book.proofs.word_tests.Statement.{statement}
@@ -28,7 +29,7 @@ then-requires c κs = search needs
 
 returns : tie.Need-returns
 unfolding wordTests
-returns c = cc
+returns c = rw (c .then .ensures, c .before .refuse-if .ensures, c .before .before .is-outside .ensures, c .before .before .before .value-of .ensures, c .before .before .before .before .word-at .ensures, c .before .before .before .before .before .kind-tests .ensures) refl
 
 pub word-tests-spec : {M : Type 1} → statement M
 word-tests-spec =

@@ -22,7 +22,7 @@ at-requires c κs = search needs
 loop-holds : tie.Need-loop-holds Inv-loop μ-loop
 loop-holds c =
     let a = c .before .before .args in
-    following-first (columns (a .release .now) (a .length .now) (a .due .now)) (a .free) (a .posting .now) (c .before .before .pre .1 .0) (c .at .result) (c .at .ensures)
+    following-first (columns (a .release .now) (a .length .now) (a .due .now)) (a .free) (a .posting .now) (c .before .before .pre .1 .1) (c .before .before .pre .1 .0) (c .at .result) (c .at .ensures)
 
 mul-i : tie.Need-mul-i Inv-loop μ-loop
 mul-i c = omega (arith, c .before .loop .inv .past)
@@ -54,7 +54,7 @@ element-copy-out-take-3 c = omega (arith, c .before .before .before .before .bef
 take-requires : tie.Need-take-requires Inv-loop μ-loop
 take-requires c κs =
     let a = c .before .before .before .before .before .before .before .before .args in
-    may-follow (columns (a .release .now) (a .length .now) (a .due .now)) (a .free) (a .posting .now) (c .before .before .before .before .before .before .before .before .pre .0) (c .before .before .before .before .before .loop .desk) (c .before .before .before .before .before .loop .k) (c .before .before .before .before .before .loop .inv) (c .before .before .before .before .before .before .before .before .pre .1 .1) (getD (a .posting .now) (c .before .before .before .before .before .loop .k) 0)
+    may-follow (columns (a .release .now) (a .length .now) (a .due .now)) (a .free) (a .posting .now) (c .before .before .before .before .before .before .before .before .pre .0) (c .before .before .before .before .before .loop .desk) (c .before .before .before .before .before .loop .k) (c .before .before .before .before .before .loop .inv) (getD (a .posting .now) (c .before .before .before .before .before .loop .k) 0)
 
 add-k : tie.Need-add-k Inv-loop μ-loop
 add-k c = search needs
@@ -70,7 +70,7 @@ loop-again c =
 returns : tie.Need-returns Inv-loop μ-loop
 returns c =
     let a = c .before .before .before .before .args in
-    following-last (columns (a .release .now) (a .length .now) (a .due .now)) (a .free) (a .posting .now) (c .before .before .before .before .pre .0) (c .before .loop .desk) (c .before .loop .k) (c .before .loop .inv) (c .loop-test .left) (c .before .before .before .before .pre .1 .1)
+    following-last (columns (a .release .now) (a .length .now) (a .due .now)) (a .free) (a .posting .now) (c .before .before .before .before .pre .0) (c .before .loop .desk) (c .before .loop .k) (c .before .loop .inv) (c .loop-test .left)
 
 pub follow-spec : {M : Type 1} → statement M
 follow-spec =

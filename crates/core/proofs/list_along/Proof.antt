@@ -6,6 +6,7 @@ use mathlib.Core.Path.{_≡_, refl, sym, _∙_, subst}
 use native.Mathlib.Omega.{arith}
 use lib.ListN.{length-replicate}
 use lib.ListN as L
+use Rattle.schedule.specs.Limits.{mostRows}
 use Rattle.schedule.specs.Columns.{at, columns}
 use Rattle.core.specs.declared.Planned.{Planned}
 use Rattle.core.specs.Answers.{Paired}
@@ -18,7 +19,7 @@ use Rattle.core.proofs.list_along.Tie as tie
 
 abbrev Inv-loop : tie.InvT-loop
 Inv-loop release length due by n free trail₀ order₀ ends₀ lates₀ count₀ bound₀ reached₀ trail order ends lates count bound reached =
-    (L.length order ≡ 256) × (n ≤ L.length trail) × Found n (columns release length due) (at by) free bound trail reached × Listing (columns release length due) n free (record { count = count; ends = ends; lates = lates }) bound × (L.length trail ≡ L.length trail₀)
+    (L.length order ≡ mostRows) × (n ≤ L.length trail) × Found n (columns release length due) (at by) free bound trail reached × Listing (columns release length due) n free (record { count = count; ends = ends; lates = lates }) bound × (L.length trail ≡ L.length trail₀)
 
 abbrev μ-loop : tie.MeasureT-loop
 μ-loop release length due by n free trail₀ order₀ ends₀ lates₀ count₀ bound₀ reached₀ trail order ends lates count bound reached = bound
@@ -33,7 +34,7 @@ loop-holds c =
     let a = c .before .before .before .before .args in
     let job = columns (a .release .now) (a .length .now) (a .due .now) in
     let o = c .before .set-out .ensures in
-    (o .0, o .1, o .2, listing-first job (a .n) (a .free) _ refl (length-replicate {A = ℕ} 256 0) (length-replicate {A = ℕ} 256 0), refl)
+    (o .0, o .1, o .2, listing-first job (a .n) (a .free) _ refl (length-replicate {A = ℕ} mostRows 0) (length-replicate {A = ℕ} mostRows 0), refl)
 
 answer-requires : tie.Need-answer-requires Inv-loop μ-loop
 answer-requires c κs = search needs

@@ -7,6 +7,7 @@ use mathlib.Core.Path.{_≡_, refl, sym, subst}
 use native.Mathlib.Omega.{arith}
 use lib.ListN.{set, length-set}
 use lib.ListN as L
+use Rattle.schedule.specs.Limits.{mostRows}
 use Rattle.schedule.specs.Columns.{at, columns}
 use Rattle.core.specs.Trails.{Came}
 use Rattle.core.proofs.onward.Statement.{statement}
@@ -14,7 +15,7 @@ use Rattle.core.proofs.onward.Tie as tie
 use Rattle.core.proofs.Searches.{here-torn, here-room, came-next, found-over, found-all}
 
 abbrev Inv-loop : tie.InvT-loop
-Inv-loop release length due by n from bound order₀ trail₀ s₀ d₀ order trail s d = (L.length order ≡ 256) × (L.length trail ≡ L.length trail₀) × ((free : ℕ) → Came n (columns release length due) (at by) free bound trail₀ from s₀ → Came n (columns release length due) (at by) free bound trail d s)
+Inv-loop release length due by n from bound order₀ trail₀ s₀ d₀ order trail s d = (L.length order ≡ mostRows) × (L.length trail ≡ L.length trail₀) × ((free : ℕ) → Came n (columns release length due) (at by) free bound trail₀ from s₀ → Came n (columns release length due) (at by) free bound trail d s)
 
 abbrev μ-loop : tie.MeasureT-loop
 μ-loop release length due by n from bound order₀ trail₀ s₀ d₀ order trail s d = n - s .count

@@ -1,0 +1,36 @@
+-- The limits of a book, and those of the search: by name, once.
+-- Rests on nothing.
+use Prim.Native.Nat.{ℕ, _+_, _*_, _≤_}
+
+-- A book has at most so many rows. A column that a row number reads has one place more: row numbers count from 1, and place 0 is for no row.
+abbrev pub mostRows : ℕ
+mostRows = 256
+
+abbrev pub rowPlaces : ℕ
+rowPlaces = 257
+
+-- The latest free minute and release, the longest length and the latest due of a book.
+abbrev pub latestMinute : ℕ
+latestMinute = 10000000
+
+abbrev pub longestLength : ℕ
+longestLength = 30000
+
+abbrev pub latestDue : ℕ
+latestDue = 20000000
+
+-- The longest time a row can take at the desk, and the latest minute at which planning can end: a desk that stands at 20,000,000 takes the most rows of
+-- the longest time.
+abbrev pub longestTime : ℕ
+longestTime = 30030
+
+abbrev pub latestEnd : ℕ
+latestEnd = 27687680
+
+-- The latest lateness, that of the latest end and the due 0, raised by 2^31 as the machine holds it.
+abbrev pub latestRaised : ℕ
+latestRaised = 2147483648 + latestEnd
+
+-- A desk at the minute t with n rows left: it ends by the latest end.
+abbrev pub EndsInTime : ℕ → ℕ → Type 0
+EndsInTime t n = t + longestTime * n ≤ latestEnd
