@@ -10,7 +10,7 @@ use lib.ListN.{length}
 use Rattle.schedule.specs.declared.Row.{Row}
 use Rattle.schedule.specs.Rows.{job, allRows}
 use Rattle.schedule.specs.Arrival.{Uncrossed, ArrivalPromise}
-use Rattle.schedule.proofs.Arrival.{first-come}
+use Rattle.schedule.proofs.Arrival.{arrival-promised}
 use Rattle.book.specs.Accepted.{AcceptedBook}
 use Rattle.book.specs.Rows.{refused, accepted}
 use Rattle.book.specs.Book.{readBook}
@@ -26,7 +26,7 @@ use Rattle.first_come.specs.Promise.{Told, OnePlan, Property1, Property2
 -- What is known of the rows of an accepted book.
 module _ {free : ℕ} {rows : List Row} (a : AcceptedBook Uncrossed free rows) where
   arrival : ArrivalPromise (job rows) free (allRows rows)
-  arrival = first-come (job rows) free (allRows rows) (a .rule) (some-rows a)
+  arrival = arrival-promised (job rows) free (allRows rows) (a .rule) (some-rows a)
 
   sound : Sound firstCome free rows
   sound = record { limits = in-limits a; front = sym (arrival .one-plan); promise = arrival .promise }

@@ -20,7 +20,7 @@ use Rattle.schedule.specs.Rows.{countFrom}
 use Rattle.schedule.specs.Desk.{Pair, OrderOf, endOf, pairOf}
 use Rattle.schedule.specs.Plans.{beats, attained, plans}
 use Rattle.schedule.specs.Promise.{Promise}
-use Rattle.schedule.specs.Arrival.{Uncrossed, comesBefore, placedByArrival, byArrival, arrivalFor, FirstCome}
+use Rattle.schedule.specs.Arrival.{Uncrossed, comesBefore, placedByArrival, byArrival, arrivalFor, ArrivalPromised}
 use Rattle.schedule.specs.Columns.{at}
 use Rattle.schedule.specs.Ranks.{ByArrival}
 use Rattle.schedule.proofs.Tests.{is-true}
@@ -185,8 +185,8 @@ module _ (job : ℕ → Job) (t : ℕ) (left : List ℕ) (uncrossed : Uncrossed 
         (order₁, arrival-within job t left (p .late) (subst (λ (q : Pair). pair₁ .late ≤ℤ q .late) (sym e) (signed (omega arith))), (whole₁, sym e));
   }
 
-pub first-come : FirstCome
-first-come job t left uncrossed some-row = record {
+pub arrival-promised : ArrivalPromised
+arrival-promised job t left uncrossed some-row = record {
   whole = arrival-perm job left;
   least = λ order o. let n = no-worse job t left uncrossed some-row order o in (n .0, signed (n .1));
   one-plan = one-plan job t left uncrossed some-row;

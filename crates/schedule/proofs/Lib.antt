@@ -17,6 +17,7 @@ pub mod Listing
 pub mod Loop
 pub mod Promise
 pub mod Arrival
+pub mod Profiles
 pub mod Ranges
 pub mod Matches
 pub mod RankPicks

@@ -1,6 +1,6 @@
 -- First come, first due: rows of which no two cross, and their one plan, by release, then due, then row.
 -- `job` says of each row number what planning sees of the row, t is the desk's minute, `left` the rows. Rests on: Desk, Picks, Plans, Promise.
--- The proof is `first-come`, in proofs/Arrival.antt.
+-- The proof is `arrival-promised`, in proofs/Arrival.antt.
 use Prim.Native.Nat.{ℕ, compare, _≤_, _<_}
 use mathlib.Core.Bool.{Bool, cond}
 use mathlib.Core.Path.{_≡_}
@@ -51,8 +51,8 @@ module _ (job : ℕ → Job) (t : ℕ) (left : List ℕ) where
     pub promise : Promise job t left (arrivalFor job t left)
 
 -- So it is for rows that do not cross, from any minute on. (Of no rows at all there is one plan, of the empty order: so at least one row.)
-abbrev pub FirstCome : Type 0
-FirstCome = (job : ℕ → Job) (t : ℕ) (left : List ℕ) → Uncrossed job left → 0 < length left → ArrivalPromise job t left
+abbrev pub ArrivalPromised : Type 0
+ArrivalPromised = (job : ℕ → Job) (t : ℕ) (left : List ℕ) → Uncrossed job left → 0 < length left → ArrivalPromise job t left
 
 -- Opens every definition of this file: name it on an `unfolding` line where all is to be computed.
 unfoldable pub openArrival : Unit {0}

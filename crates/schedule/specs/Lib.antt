@@ -5,6 +5,7 @@ pub mod Picks
 pub mod Plans
 pub mod Promise
 pub mod Arrival
+pub mod Profiles
 pub mod Ranges
 pub mod Offset
 pub mod Columns

@@ -24,6 +24,15 @@ jobOf r = record { release = r .release; length = r .length; due = r .due }
 abbrev pub job : List Row → ℕ → Job
 job rows i = jobOf (row rows i)
 
+-- A day at the desk, as an accepted book gives it: the free minute, and the rows of the table.
+pub record Day : Type 0 where
+  pub free : ℕ
+  pub rows : List Row
+
+-- What planning sees of each row number of a day.
+abbrev pub jobs : Day → ℕ → Job
+jobs day = job (day .rows)
+
 -- The numbers from i on, n of them; and the numbers of all rows.
 unfoldable pub countFrom : ℕ → ℕ → List ℕ
 countFrom i zero = []
@@ -31,6 +40,9 @@ countFrom i (suc n) = i ∷ countFrom (suc i) n
 
 abbrev pub allRows : List Row → List ℕ
 allRows rows = countFrom 1 (length rows)
+
+abbrev pub rowNumbers : Day → List ℕ
+rowNumbers day = allRows (day .rows)
 
 -- A list without the first place where i stands; and without each of the first list.
 unfoldable pub without : ℕ → List ℕ → List ℕ

@@ -9,6 +9,12 @@ pub enum Class {
     Of(u32),
 }
 
+// A profile: by which rule the rows of a book are tested and planned. A bureau chooses it by the calls that it makes.
+pub enum Profile {
+    Ordering,
+    FirstCome,
+}
+
 // A row of the table: one transcript.
 pub struct Row {
     pub number: u32,
