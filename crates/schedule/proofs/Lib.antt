@@ -23,3 +23,4 @@ pub mod Matches
 pub mod RankPicks
 pub mod Renumbered
 pub mod Raised
+pub mod SameJobs
