@@ -1,46 +1,35 @@
 // Texts and numbers on standard output.
+use crate::state;
 use libc::STDOUT_FILENO;
 
 pub fn text(bytes: &[u8]) {
     io::write_all(STDOUT_FILENO, bytes);
 }
 
-pub fn number(n: u64) {
-    io::print_decimal(STDOUT_FILENO, n);
+// A byte of a text.
+pub fn byte(b: u8) {
+    text(&[b]);
 }
 
 // A number after a text.
 pub fn after(bytes: &[u8], n: u64) {
     text(bytes);
-    number(n);
+    io::print_decimal(STDOUT_FILENO, n);
 }
 
-// A signed number, raised by 2^31.
-fn raised(n: u64) {
+// A number in two's complement.
+fn signed(n: u32) {
     if n < 2_147_483_648 {
-        after(b"-", 2_147_483_648 - n);
+        after(b" ", n as u64);
     } else {
-        number(n - 2_147_483_648);
+        after(b" -", 4_294_967_296 - (n as u64));
     }
 }
 
 // An end and a worst lateness.
-pub fn pair(end: u32, late: i32) {
+pub fn pair(end: u32, late: u32) {
     after(b" (", end as u64);
-    text(b" ");
-    raised(schedule::raise(late) as u64);
-    text(b")");
-}
-
-// An end and a worst lateness in two's complement.
-pub fn pair_words(end: u32, late: u32) {
-    after(b" (", end as u64);
-    text(b" ");
-    if late < 2_147_483_648 {
-        number(late as u64);
-    } else {
-        after(b"-", 4_294_967_296 - (late as u64));
-    }
+    signed(late);
     text(b")");
 }
 
@@ -50,24 +39,28 @@ pub fn refusal(n: u32, place: usize) {
     after(b"@", place as u64);
 }
 
-fn word(n: u32) {
-    after(b" ", n as u64);
+fn value(w: u32) {
+    after(b" ", (w % 536_870_912) as u64);
 }
 
-// The value of a word.
-pub fn value(w: u32) {
-    word(w % 536_870_912);
-}
-
-// Numbers one after another.
-pub fn numbers(ns: &[u32]) {
+// The values of words one after another.
+pub fn values(words: &[u32]) {
     let mut k: usize = 0;
-    while k < ns.len() {
-        word(ns[k]);
+    while k < words.len() {
+        value(words[k]);
         k += 1;
     }
 }
 
-pub fn line() {
-    text(b"\n");
+// Pairs one after another.
+pub fn pairs(words: &[u32], count: usize) {
+    let mut k: usize = 0;
+    while k < count {
+        let at = std::num::wrapping_add_usize(k, k);
+        pair(
+            state::word_at(words, at),
+            state::word_at(words, std::num::wrapping_add_usize(at, 1)),
+        );
+        k += 1;
+    }
 }

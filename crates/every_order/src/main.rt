@@ -1,21 +1,34 @@
-// Holds the planner against trying every order: small books made by a rule, their rows as they arrive, the pairs of all their orders worked out here, with no part
-// of the planner, and every offered call compared with them. A difference prints its book and what was asked.
+// Holds the planner against trying every order: of each small book on standard input the pairs of all orders are worked out here, with no part of
+// the planner, and every offered call is compared with them. A difference prints what was asked and the book.
+//
+//     FREE PACE CLASS  RELEASE PAGES DUE ..     a line is a book of 1 to 8 rows, all of one class, or of none where that is 8
+//     "TEXT"                                    prints the text and a count, one after another as `tally` has them
+//     # ..                                      a comment, to the end of its line
+mod calls;
 mod compare;
 mod day;
+mod input;
 mod orders;
 mod say;
+mod tally;
 
-use compare::Tally;
+use input::Input;
+use libc::STDIN_FILENO;
 
-// So many books; their rows go round from 1 to 8.
-const BOOKS: u32 = 1_600;
+// The most bytes of the input.
+const BYTES: usize = 100_000;
+
+fn run(bytes: &[u8]) {
+    let mut s = Input::new();
+    let mut i: usize = 0;
+    while i < bytes.len() {
+        s = input::read(s, bytes[i]);
+        i += 1;
+    }
+}
 
 fn main() {
-    let mut tally = Tally::none();
-    let mut n: u32 = 0;
-    while n < BOOKS {
-        tally = compare::book(orders::arriving(n), tally);
-        n += 1;
-    }
-    say::tally(tally);
+    let mut bytes = [0u8; BYTES];
+    let size = io::read_full(STDIN_FILENO, &mut bytes);
+    run(&bytes[..size]);
 }

@@ -36,9 +36,9 @@ pub fn how_many(n: usize) -> u32 {
     }
 }
 
-// Order number `code` of n rows: each place takes one of the rows that are left. Rows are counted from 0.
+// Order number `code` of n rows: each place takes one of the rows that are left. Rows are counted from 1.
 pub fn order_at(n: usize, code: u32) -> [u32; 8] {
-    let mut order = [0u32, 1, 2, 3, 4, 5, 6, 7];
+    let mut order = [1u32, 2, 3, 4, 5, 6, 7, 8];
     let mut rest = code as usize;
     let count = day::at_most(n, 8);
     let mut i: usize = 0;
@@ -55,33 +55,19 @@ pub fn order_at(n: usize, code: u32) -> [u32; 8] {
     order
 }
 
-// The day with its rows in another order.
-fn arranged(day: Day, order: [u32; 8]) -> Day {
-    let release = day.release;
-    let pages = day.pages;
-    let length = day.length;
-    let due = day.due;
-    let mut other = day;
-    let count = day::at_most(day.count, 8);
-    let mut k: usize = 0;
-    while k < count {
-        let i = (order[k] % 8) as usize;
-        other.release[k] = release[i];
-        other.pages[k] = pages[i];
-        other.length[k] = length[i];
-        other.due[k] = due[i];
-        k += 1;
+// The pair with a row more: the row starts when it is released and the desk is free.
+fn after_row(pair: Pair, release: u32, length: u32, due: u32) -> Pair {
+    let start = later(pair.end, release);
+    let end = std::num::wrapping_add_u32(start, length);
+    let late = std::num::wrapping_sub_u32(std::num::wrapping_add_u32(end, RAISE), due);
+    Pair {
+        end: end,
+        late: later(pair.late, late),
     }
-    other
 }
 
-// Day n with its rows as they arrive: every fourth day as it was made, by rising due, the others in any order. All rows are of one class or of none.
-pub fn arriving(n: u32) -> Day {
-    let day = day::made(n);
-    if n % 4 == 0 {
-        return day;
-    }
-    arranged(day, order_at(day.count, day::next(n)))
+fn later(a: u32, b: u32) -> u32 {
+    if a < b { b } else { a }
 }
 
 // The end and the worst lateness of an order, by the desk's own rules.
@@ -90,33 +76,25 @@ pub fn pair_of(day: Day, order: [u32; 8]) -> Pair {
     let length = day.length;
     let due = day.due;
     let count = day::at_most(day.count, 8);
-    let mut minute = day.free;
-    let mut worst: u32 = 0;
+    let mut pair = Pair {
+        end: day.free,
+        late: 0,
+    };
     let mut k: usize = 0;
     while k < count {
-        let i = (order[k] % 8) as usize;
-        if minute < release[i] {
-            minute = release[i];
-        }
-        minute = std::num::wrapping_add_u32(minute, length[i]);
-        let late = std::num::wrapping_sub_u32(std::num::wrapping_add_u32(minute, RAISE), due[i]);
-        if worst < late {
-            worst = late;
-        }
+        let i = (std::num::wrapping_sub_u32(order[k], 1) % 8) as usize;
+        pair = after_row(pair, release[i], length[i], due[i]);
         k += 1;
     }
-    Pair {
-        end: minute,
-        late: worst,
-    }
+    pair
 }
 
 fn sooner(a: u32, b: u32) -> u32 {
     if a < b { a } else { b }
 }
 
-// For each end the least worst lateness of the orders with that end. How many orders were tried.
-pub fn least(day: Day, best: &mut [u32; ENDS]) -> u32 {
+// For each end the least worst lateness of the orders with that end.
+fn least(day: Day, best: &mut [u32; ENDS]) {
     let most = how_many(day.count);
     let mut code: u32 = 0;
     while code < most {
@@ -127,7 +105,6 @@ pub fn least(day: Day, best: &mut [u32; ENDS]) -> u32 {
         }
         code += 1;
     }
-    code
 }
 
 // The pairs with one more.
@@ -143,7 +120,7 @@ fn with_pair(front: Front, end: u32, late: u32) -> Front {
 }
 
 // The pairs that no order beats: by rising end, those with a worst lateness below all before.
-pub fn unbeaten(best: &[u32; ENDS]) -> Front {
+fn unbeaten(best: &[u32; ENDS]) -> Front {
     let mut f = Front {
         count: 0,
         ends: [0; 16],
@@ -159,4 +136,11 @@ pub fn unbeaten(best: &[u32; ENDS]) -> Front {
         e += 1;
     }
     f
+}
+
+// The pairs that no order of a day beats.
+pub fn front_of(day: Day) -> Front {
+    let mut best = [4_294_967_295u32; ENDS];
+    least(day, &mut best);
+    unbeaten(&best)
 }

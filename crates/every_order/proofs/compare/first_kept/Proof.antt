@@ -1,4 +1,4 @@
--- `first_kept` is safe and ends: the count rises at each turn, up to its limit.
+-- `first_kept` is safe and ends: each turn of its loop comes nearer to its limit.
 -- Assumes nothing.
 use borrow.Author.Needs.{needs}
 use Prim.Native.Nat.{_≤_, _-_}
@@ -6,7 +6,7 @@ use Rattle.every_order.proofs.compare.first_kept.Statement.{statement}
 use Rattle.every_order.proofs.compare.first_kept.Tie as tie
 
 abbrev Inv-loop : tie.InvT-loop
-Inv-loop front bound lates count k₀ k = k ≤ count
+Inv-loop front bound lates count k₀ k = (k ≤ count) × (count ≤ 16)
 
 abbrev μ-loop : tie.MeasureT-loop
 μ-loop front bound lates count k₀ k = count - k

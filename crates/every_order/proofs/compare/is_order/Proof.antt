@@ -1,4 +1,4 @@
--- `is_order` is safe and ends: the count rises at each turn, up to its limit.
+-- `is_order` is safe and ends: each turn of its loop comes nearer to its limit.
 -- Assumes nothing.
 use borrow.Author.Needs.{needs}
 use Prim.Native.Nat.{_≤_, _-_}
@@ -6,43 +6,28 @@ use Rattle.every_order.proofs.compare.is_order.Statement.{statement}
 use Rattle.every_order.proofs.compare.is_order.Tie as tie
 
 abbrev Inv-loop : tie.InvT-loop
-Inv-loop n rows seen₀ count k₀ seen k = k ≤ count
+Inv-loop rows n count row₀ row = row ≤ count
 
 abbrev μ-loop : tie.MeasureT-loop
-μ-loop n rows seen₀ count k₀ seen k = count - k
+μ-loop rows n count row₀ row = count - row
 
 at-most-requires : tie.Need-at-most-requires Inv-loop μ-loop
 at-most-requires c κs = search needs
 
+cast-count : tie.Need-cast-count Inv-loop μ-loop
+cast-count c = search needs
+
 loop-holds : tie.Need-loop-holds Inv-loop μ-loop
 loop-holds c = search needs
 
-mul-i : tie.Need-mul-i Inv-loop μ-loop
-mul-i c = search needs
+add-row : tie.Need-add-row Inv-loop μ-loop
+add-row c = search needs
 
-array-read-i : tie.Need-array-read-i Inv-loop μ-loop
-array-read-i c = search needs
-
-cast-i : tie.Need-cast-i Inv-loop μ-loop
-cast-i c = search needs
+has-row-requires : tie.Need-has-row-requires Inv-loop μ-loop
+has-row-requires c κs = search needs
 
 returns : tie.Need-returns Inv-loop μ-loop
 returns c = search needs
-
-returns-2 : tie.Need-returns-2 Inv-loop μ-loop
-returns-2 c = search needs
-
-array-read-if3 : tie.Need-array-read-if3 Inv-loop μ-loop
-array-read-if3 c = search needs
-
-returns-3 : tie.Need-returns-3 Inv-loop μ-loop
-returns-3 c = search needs
-
-array-write-seen : tie.Need-array-write-seen Inv-loop μ-loop
-array-write-seen c = search needs
-
-add-k : tie.Need-add-k Inv-loop μ-loop
-add-k c = search needs
 
 loop-less : tie.Need-loop-less Inv-loop μ-loop
 loop-less c = search needs
@@ -50,8 +35,8 @@ loop-less c = search needs
 loop-again : tie.Need-loop-again Inv-loop μ-loop
 loop-again c = search needs
 
-returns-4 : tie.Need-returns-4 Inv-loop μ-loop
-returns-4 c = search needs
+returns-2 : tie.Need-returns-2 Inv-loop μ-loop
+returns-2 c = search needs
 
 pub is-order-spec : {M : Type 1} → statement M
 is-order-spec =
@@ -60,16 +45,11 @@ is-order-spec =
     Inv-loop
     μ-loop
     at-most-requires
+    cast-count
     loop-holds
-    mul-i
-    array-read-i
-    cast-i
+    add-row
+    has-row-requires
     returns
-    returns-2
-    array-read-if3
-    returns-3
-    array-write-seen
-    add-k
     loop-less
     loop-again
-    returns-4)
+    returns-2)

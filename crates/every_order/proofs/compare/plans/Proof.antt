@@ -1,4 +1,4 @@
--- `plans` is safe and ends: the count rises at each turn, up to its limit.
+-- `plans` is safe and ends: each turn of its loop comes nearer to its limit.
 -- Assumes nothing.
 use borrow.Author.Needs.{needs}
 use Prim.Native.Nat.{_≤_, _-_}
@@ -6,7 +6,7 @@ use Rattle.every_order.proofs.compare.plans.Statement.{statement}
 use Rattle.every_order.proofs.compare.plans.Tie as tie
 
 abbrev Inv-loop : tie.InvT-loop
-Inv-loop book day front u₀ count k₀ u k = k ≤ count
+Inv-loop book day front u₀ count k₀ u k = (k ≤ count) × (count ≤ 16)
 
 abbrev μ-loop : tie.MeasureT-loop
 μ-loop book day front u₀ count k₀ u k = count - k

@@ -1,4 +1,4 @@
--- `same_pairs` is safe and ends: the count rises at each turn, up to its limit.
+-- `same_pairs` is safe and ends: each turn of its loop comes nearer to its limit.
 -- Assumes nothing.
 use borrow.Author.Needs.{needs}
 use Prim.Native.Nat.{_≤_, _-_}
@@ -6,7 +6,7 @@ use Rattle.every_order.proofs.compare.same_pairs.Statement.{statement}
 use Rattle.every_order.proofs.compare.same_pairs.Tie as tie
 
 abbrev Inv-loop : tie.InvT-loop
-Inv-loop words front ends lates count k₀ k = k ≤ count
+Inv-loop words front ends lates count k₀ k = (k ≤ count) × (count ≤ 8)
 
 abbrev μ-loop : tie.MeasureT-loop
 μ-loop words front ends lates count k₀ k = count - k
@@ -26,35 +26,32 @@ array-read-wrapping-sub-u32 c = search needs
 wrapping-sub-u32-requires : tie.Need-wrapping-sub-u32-requires Inv-loop μ-loop
 wrapping-sub-u32-requires c κs = search needs
 
+mul-number-at : tie.Need-mul-number-at Inv-loop μ-loop
+mul-number-at c = search needs
+
+number-at-requires : tie.Need-number-at-requires Inv-loop μ-loop
+number-at-requires c κs = search needs
+
 mul-if1 : tie.Need-mul-if1 Inv-loop μ-loop
 mul-if1 c = search needs
-
-mul-if1-2 : tie.Need-mul-if1-2 Inv-loop μ-loop
-mul-if1-2 c = search needs
-
-element-copy-out-if1 : tie.Need-element-copy-out-if1 Inv-loop μ-loop
-element-copy-out-if1 c = search needs
-
-mul-if1-3 : tie.Need-mul-if1-3 Inv-loop μ-loop
-mul-if1-3 c = search needs
 
 array-read-if1 : tie.Need-array-read-if1 Inv-loop μ-loop
 array-read-if1 c = search needs
 
-mul-if2 : tie.Need-mul-if2 Inv-loop μ-loop
-mul-if2 c = search needs
-
-add-if2 : tie.Need-add-if2 Inv-loop μ-loop
-add-if2 c = search needs
-
-mul-if2-2 : tie.Need-mul-if2-2 Inv-loop μ-loop
-mul-if2-2 c = search needs
-
-element-copy-out-if2 : tie.Need-element-copy-out-if2 Inv-loop μ-loop
-element-copy-out-if2 c = search needs
-
 returns : tie.Need-returns Inv-loop μ-loop
 returns c = search needs
+
+mul-number-at-2 : tie.Need-mul-number-at-2 Inv-loop μ-loop
+mul-number-at-2 c = search needs
+
+add-number-at : tie.Need-add-number-at Inv-loop μ-loop
+add-number-at c = search needs
+
+number-at-requires-2 : tie.Need-number-at-requires-2 Inv-loop μ-loop
+number-at-requires-2 c κs = search needs
+
+returns-2 : tie.Need-returns-2 Inv-loop μ-loop
+returns-2 c = search needs
 
 add-k : tie.Need-add-k Inv-loop μ-loop
 add-k c = search needs
@@ -65,8 +62,8 @@ loop-less c = search needs
 loop-again : tie.Need-loop-again Inv-loop μ-loop
 loop-again c = search needs
 
-returns-2 : tie.Need-returns-2 Inv-loop μ-loop
-returns-2 c = search needs
+returns-3 : tie.Need-returns-3 Inv-loop μ-loop
+returns-3 c = search needs
 
 pub same-pairs-spec : {M : Type 1} → statement M
 same-pairs-spec =
@@ -79,17 +76,16 @@ same-pairs-spec =
     mul-wrapping-sub-u32
     array-read-wrapping-sub-u32
     wrapping-sub-u32-requires
+    mul-number-at
+    number-at-requires
     mul-if1
-    mul-if1-2
-    element-copy-out-if1
-    mul-if1-3
     array-read-if1
-    mul-if2
-    add-if2
-    mul-if2-2
-    element-copy-out-if2
     returns
+    mul-number-at-2
+    add-number-at
+    number-at-requires-2
+    returns-2
     add-k
     loop-less
     loop-again
-    returns-2)
+    returns-3)

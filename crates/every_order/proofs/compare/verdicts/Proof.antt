@@ -1,4 +1,4 @@
--- `verdicts` is safe and ends: the count rises at each turn, up to its limit.
+-- `verdicts` is safe and ends: each turn of its loop comes nearer to its limit.
 -- Assumes nothing.
 use borrow.Author.Needs.{needs}
 use Prim.Native.Nat.{_≤_, _-_}
@@ -6,28 +6,25 @@ use Rattle.every_order.proofs.compare.verdicts.Statement.{statement}
 use Rattle.every_order.proofs.compare.verdicts.Tie as tie
 
 abbrev Inv-loop : tie.InvT-loop
-Inv-loop book day front most by u₀ turns₀ code₀ u turns code = turns ≤ most
+Inv-loop book day front n most u₀ code₀ u code = code ≤ most
 
 abbrev μ-loop : tie.MeasureT-loop
-μ-loop book day front most by u₀ turns₀ code₀ u turns code = most - turns
+μ-loop book day front n most u₀ code₀ u code = most - code
 
 how-many-requires : tie.Need-how-many-requires Inv-loop μ-loop
 how-many-requires c κs = search needs
 
-stride-requires : tie.Need-stride-requires Inv-loop μ-loop
-stride-requires c κs = search needs
-
 loop-holds : tie.Need-loop-holds Inv-loop μ-loop
 loop-holds c = search needs
+
+is-judged-requires : tie.Need-is-judged-requires Inv-loop μ-loop
+is-judged-requires c κs = search needs
 
 verdict-requires : tie.Need-verdict-requires Inv-loop μ-loop
 verdict-requires c κs = search needs
 
-wrapping-add-u32-requires : tie.Need-wrapping-add-u32-requires Inv-loop μ-loop
-wrapping-add-u32-requires c κs = search needs
-
-add-turns : tie.Need-add-turns Inv-loop μ-loop
-add-turns c = search needs
+add-code : tie.Need-add-code Inv-loop μ-loop
+add-code c = search needs
 
 loop-less : tie.Need-loop-less Inv-loop μ-loop
 loop-less c = search needs
@@ -45,11 +42,10 @@ verdicts-spec =
     Inv-loop
     μ-loop
     how-many-requires
-    stride-requires
     loop-holds
+    is-judged-requires
     verdict-requires
-    wrapping-add-u32-requires
-    add-turns
+    add-code
     loop-less
     loop-again
     returns)

@@ -1,8 +1,7 @@
--- `first` is safe: the count lies within the words.
+-- `first` is safe: the part that it lends lies within the words.
 -- Assumes nothing.
 use borrow.Author.Needs.{needs}
 use native.Mathlib.Omega.{arith}
-use Prim.Native.Nat.{_-_}
 use mathlib.Core.Path.{sym}
 use lib.Seq.{length-take-le}
 use Rattle.every_order.proofs.day.first.Statement.{statement}
@@ -12,7 +11,7 @@ at-most-requires : tie.Need-at-most-requires
 at-most-requires c κs = search needs
 
 slice-aggregate-result : tie.Need-slice-aggregate-result
-slice-aggregate-result c = sym (length-take-le (c .before .at-most .result) (c .before .before .before .args .words .now) (omega arith))
+slice-aggregate-result c = sym (length-take-le (c .before .at-most .result) (c .before .before .before .args .numbers .now) (omega arith))
 
 returns : tie.Need-returns
 returns c = search needs

@@ -1,4 +1,4 @@
--- `made` is safe and ends: the count rises at each turn, up to its limit.
+-- `made` is safe and ends: each turn of its loop comes nearer to its limit.
 -- Assumes nothing.
 use borrow.Author.Needs.{needs}
 use Prim.Native.Nat.{_≤_, _-_}
@@ -6,40 +6,16 @@ use Rattle.every_order.proofs.day.made.Statement.{statement}
 use Rattle.every_order.proofs.day.made.Tie as tie
 
 abbrev Inv-loop : tie.InvT-loop
-Inv-loop n s₀ shape pace class count due₀ ready₀ day₀ i₀ s due ready day i = i ≤ count
+Inv-loop count numbers pace rows day₀ i₀ day i = rows ≤ 9
 
 abbrev μ-loop : tie.MeasureT-loop
-μ-loop n s₀ shape pace class count due₀ ready₀ day₀ i₀ s due ready day i = count - i
+μ-loop count numbers pace rows day₀ i₀ day i = rows - i
 
-add-next : tie.Need-add-next Inv-loop μ-loop
-add-next c = search needs
-
-next-requires : tie.Need-next-requires Inv-loop μ-loop
-next-requires c κs = search needs
-
-next-requires-2 : tie.Need-next-requires-2 Inv-loop μ-loop
-next-requires-2 c κs = search needs
-
-pace-of-requires : tie.Need-pace-of-requires Inv-loop μ-loop
-pace-of-requires c κs = search needs
-
-class-of-requires : tie.Need-class-of-requires Inv-loop μ-loop
-class-of-requires c κs = search needs
-
-cast-at-most : tie.Need-cast-at-most Inv-loop μ-loop
-cast-at-most c = search needs
-
-add-at-most : tie.Need-add-at-most Inv-loop μ-loop
-add-at-most c = search needs
+array-read-pace : tie.Need-array-read-pace Inv-loop μ-loop
+array-read-pace c = search needs
 
 at-most-requires : tie.Need-at-most-requires Inv-loop μ-loop
 at-most-requires c κs = search needs
-
-spare-of-requires : tie.Need-spare-of-requires Inv-loop μ-loop
-spare-of-requires c κs = search needs
-
-free-of-requires : tie.Need-free-of-requires Inv-loop μ-loop
-free-of-requires c κs = search needs
 
 bare-requires : tie.Need-bare-requires Inv-loop μ-loop
 bare-requires c κs = search needs
@@ -47,80 +23,41 @@ bare-requires c κs = search needs
 loop-holds : tie.Need-loop-holds Inv-loop μ-loop
 loop-holds c = search needs
 
-next-requires-3 : tie.Need-next-requires-3 Inv-loop μ-loop
-next-requires-3 c κs = search needs
+mul-with-row : tie.Need-mul-with-row Inv-loop μ-loop
+mul-with-row c = search needs
 
-next-requires-4 : tie.Need-next-requires-4 Inv-loop μ-loop
-next-requires-4 c κs = search needs
+mul-with-row-2 : tie.Need-mul-with-row-2 Inv-loop μ-loop
+mul-with-row-2 c = search needs
 
-pages-of-requires : tie.Need-pages-of-requires Inv-loop μ-loop
-pages-of-requires c κs = search needs
+array-read-with-row : tie.Need-array-read-with-row Inv-loop μ-loop
+array-read-with-row c = search needs
 
-twice-over-requires : tie.Need-twice-over-requires Inv-loop μ-loop
-twice-over-requires c κs = search needs
+mul-with-row-3 : tie.Need-mul-with-row-3 Inv-loop μ-loop
+mul-with-row-3 c = search needs
 
-length-of-requires : tie.Need-length-of-requires Inv-loop μ-loop
-length-of-requires c κs = search needs
+add-with-row : tie.Need-add-with-row Inv-loop μ-loop
+add-with-row c = search needs
 
-cast-step-of : tie.Need-cast-step-of Inv-loop μ-loop
-cast-step-of c = search needs
+mul-with-row-4 : tie.Need-mul-with-row-4 Inv-loop μ-loop
+mul-with-row-4 c = search needs
 
-next-requires-5 : tie.Need-next-requires-5 Inv-loop μ-loop
-next-requires-5 c κs = search needs
+array-read-with-row-2 : tie.Need-array-read-with-row-2 Inv-loop μ-loop
+array-read-with-row-2 c = search needs
 
-step-of-requires : tie.Need-step-of-requires Inv-loop μ-loop
-step-of-requires c κs = search needs
+mul-with-row-5 : tie.Need-mul-with-row-5 Inv-loop μ-loop
+mul-with-row-5 c = search needs
 
-wrapping-add-u32-requires : tie.Need-wrapping-add-u32-requires Inv-loop μ-loop
-wrapping-add-u32-requires c κs = search needs
+add-with-row-2 : tie.Need-add-with-row-2 Inv-loop μ-loop
+add-with-row-2 c = search needs
 
-later-requires : tie.Need-later-requires Inv-loop μ-loop
-later-requires c κs = search needs
+mul-with-row-6 : tie.Need-mul-with-row-6 Inv-loop μ-loop
+mul-with-row-6 c = search needs
 
-wrapping-sub-u32-requires : tie.Need-wrapping-sub-u32-requires Inv-loop μ-loop
-wrapping-sub-u32-requires c κs = search needs
+array-read-with-row-3 : tie.Need-array-read-with-row-3 Inv-loop μ-loop
+array-read-with-row-3 c = search needs
 
-share-of-requires : tie.Need-share-of-requires Inv-loop μ-loop
-share-of-requires c κs = search needs
-
-wrapping-add-u32-requires-2 : tie.Need-wrapping-add-u32-requires-2 Inv-loop μ-loop
-wrapping-add-u32-requires-2 c κs = search needs
-
-sub-day : tie.Need-sub-day Inv-loop μ-loop
-sub-day c = search needs
-
-mul-day : tie.Need-mul-day Inv-loop μ-loop
-mul-day c = search needs
-
-element-write-day : tie.Need-element-write-day Inv-loop μ-loop
-element-write-day c = search needs
-
-mul-day-2 : tie.Need-mul-day-2 Inv-loop μ-loop
-mul-day-2 c = search needs
-
-element-write-day-2 : tie.Need-element-write-day-2 Inv-loop μ-loop
-element-write-day-2 c = search needs
-
-mul-day-3 : tie.Need-mul-day-3 Inv-loop μ-loop
-mul-day-3 c = search needs
-
-element-write-day-3 : tie.Need-element-write-day-3 Inv-loop μ-loop
-element-write-day-3 c = search needs
-
-mul-day-4 : tie.Need-mul-day-4 Inv-loop μ-loop
-mul-day-4 c = search needs
-
-element-write-day-4 : tie.Need-element-write-day-4 Inv-loop μ-loop
-element-write-day-4 c = search needs
-
-mul-day-5 : tie.Need-mul-day-5 Inv-loop μ-loop
-mul-day-5 c = search needs
-
-element-write-day-5 : tie.Need-element-write-day-5 Inv-loop μ-loop
-element-write-day-5 c = search needs
-
-is-dropped-requires : tie.Need-is-dropped-requires Inv-loop μ-loop
-is-dropped-requires c κs = search needs
+with-row-requires : tie.Need-with-row-requires Inv-loop μ-loop
+with-row-requires c κs = search needs
 
 add-i : tie.Need-add-i Inv-loop μ-loop
 add-i c = search needs
@@ -140,43 +77,22 @@ made-spec =
     (tie.spec
     Inv-loop
     μ-loop
-    add-next
-    next-requires
-    next-requires-2
-    pace-of-requires
-    class-of-requires
-    cast-at-most
-    add-at-most
+    array-read-pace
     at-most-requires
-    spare-of-requires
-    free-of-requires
     bare-requires
     loop-holds
-    next-requires-3
-    next-requires-4
-    pages-of-requires
-    twice-over-requires
-    length-of-requires
-    cast-step-of
-    next-requires-5
-    step-of-requires
-    wrapping-add-u32-requires
-    later-requires
-    wrapping-sub-u32-requires
-    share-of-requires
-    wrapping-add-u32-requires-2
-    sub-day
-    mul-day
-    element-write-day
-    mul-day-2
-    element-write-day-2
-    mul-day-3
-    element-write-day-3
-    mul-day-4
-    element-write-day-4
-    mul-day-5
-    element-write-day-5
-    is-dropped-requires
+    mul-with-row
+    mul-with-row-2
+    array-read-with-row
+    mul-with-row-3
+    add-with-row
+    mul-with-row-4
+    array-read-with-row-2
+    mul-with-row-5
+    add-with-row-2
+    mul-with-row-6
+    array-read-with-row-3
+    with-row-requires
     add-i
     loop-less
     loop-again

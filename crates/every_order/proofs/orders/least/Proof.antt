@@ -1,4 +1,4 @@
--- `least` is safe and ends: the count rises at each turn, up to its limit.
+-- `least` is safe and ends: each turn of its loop comes nearer to its limit.
 -- Assumes nothing.
 use borrow.Author.Needs.{needs}
 use Prim.Native.Nat.{_≤_, _-_}

@@ -1,12 +1,14 @@
--- `order_at` is safe and ends: the count rises at each turn, up to its limit.
+-- `order_at` is safe and ends: each turn of its loop comes nearer to its limit.
 -- Assumes nothing.
 use borrow.Author.Needs.{needs}
 use Prim.Native.Nat.{_≤_, _-_}
+use mathlib.Core.Path.{_≡_}
+use lib.ListN.{length}
 use Rattle.every_order.proofs.orders.order_at.Statement.{statement}
 use Rattle.every_order.proofs.orders.order_at.Tie as tie
 
 abbrev Inv-loop : tie.InvT-loop
-Inv-loop n code order₀ rest₀ count i₀ order rest i = i ≤ count
+Inv-loop n code order₀ rest₀ count i₀ order rest i = (i ≤ count) × (count ≤ 8) × (length order ≡ 8)
 
 abbrev μ-loop : tie.MeasureT-loop
 μ-loop n code order₀ rest₀ count i₀ order rest i = count - i
