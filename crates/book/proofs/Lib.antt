@@ -1,15 +1,6 @@
-pub mod Signed
 pub mod Tests
-pub mod Scans
-pub mod Columns
 pub mod Tables
-pub mod NearestMinute
 pub mod Reached
 pub mod Whole
-pub mod Clashes
-pub mod Disorder
-pub mod Accepted
 pub mod Readings
-pub mod Places
-pub mod OneClass
 pub mod Numbered

@@ -9,41 +9,45 @@ use lib.Dec.{ltb, eqb}
 use lib.ListN.{length, drop, getD, length-drop, length-append, List·getD-append}
 use lib.Seq.{getD-at}
 use borrow.Author.Tests.{ltb-true, ltb-false}
+use Rattle.schedule.specs.Limits.{latestDue, latestMinute, longestLength, mostRows}
 use Rattle.schedule.specs.declared.Row.{Row}
 use Rattle.schedule.specs.declared.Class.{Class}
 use Rattle.schedule.specs.declared.Class.the-variants.{None, Of}
-use Rattle.schedule.specs.Rows.{noRow, row, allRows}
+use Rattle.schedule.specs.Rows.{noRow, row, Day, allRows}
 use Rattle.schedule.proofs.Numbers.{count-range}
-use Rattle.book.specs.declared.Tested.{Tested}
-use Rattle.book.specs.declared.Tested.the-variants.{Passed, Refused}
-use Rattle.book.specs.Refusals.{byTail}
-use Rattle.book.specs.Words.{kind, value, word}
-use Rattle.book.specs.Due.{margin, classOf, Margined, dueBy, ClassDue}
-use Rattle.book.specs.Rows.{Contents, refused, accepted, refusedOr, numbersOf, rowTests, lengthOf, rowOf, endStands, endTests, readRows}
-use Rattle.book.specs.Book.{headTests, testedBy, readWords}
-use Rattle.book.proofs.Tests.{never, and-left, and-right, then-right, not-refused, Fit, row-fits, HeadFit, head-fits}
-use Rattle.book.proofs.NearestMinute.{length-least, length-most}
+use Rattle.refusals.specs.declared.Tested.{Tested}
+use Rattle.refusals.specs.declared.Tested.the-variants.{Passed, Refused}
+use Rattle.refusals.specs.Refusals.{byTail}
+use Rattle.words.specs.Words.{kind, value, word}
+use Rattle.row_reader.specs.Due.{margin, classOf, Margined, dueBy, ClassDue}
+use Rattle.row_reader.specs.RowWords.{numbersOf, rowTests, lengthOf, rowOf}
+use Rattle.book.specs.Rows.{Contents, refused, accepted, dayOf, refusedOr, endStands, endTests, triedRows, readRows}
+use Rattle.book.specs.Book.{headTests, readWords}
+use Rattle.refusals.proofs.Tests.{never, then-right, not-refused}
+use Rattle.row_reader.proofs.Tests.{and-left, and-right, Fit, row-fits}
+use Rattle.book.proofs.Tests.{HeadFit, head-fits}
+use Rattle.row_reader.proofs.NearestMinute.{length-least, length-most}
 use Rattle.book.proofs.Reached.{read-end, read-on}
 
 -- Contents that are accepted passed the test before them.
-no-contents : {n p f : ℕ} {rs : List Row} → refused n p ≡ accepted f rs → ⊥
+no-contents : {n p : ℕ} {day : Day} → refused n p ≡ accepted day → ⊥
 no-contents e = never (cc)
 
-or-tests : (o : Tested) (c : Contents) {f : ℕ} {rs : List Row} → refusedOr o c ≡ accepted f rs → o ≡ Passed
+pub or-tests : (o : Tested) (c : Contents) {day : Day} → refusedOr o c ≡ accepted day → o ≡ Passed
 or-tests Passed c e = refl
 or-tests (Refused n p) c e = absurd (no-contents e)
 
-or-contents : (o : Tested) (c : Contents) {f : ℕ} {rs : List Row} → refusedOr o c ≡ accepted f rs → c ≡ accepted f rs
+pub or-contents : (o : Tested) (c : Contents) {day : Day} → refusedOr o c ≡ accepted day → c ≡ accepted day
 or-contents Passed c e = e
 or-contents (Refused n p) c e = absurd (no-contents e)
 
 -- The ranges of a row, and the due of its class.
 pub record RowRanged (r : Row) : Type 0 where
-  pub release : r .release ≤ 10000000
+  pub release : r .release ≤ latestMinute
   pub least : 1 ≤ r .length
-  pub most : r .length ≤ 30000
+  pub most : r .length ≤ longestLength
   pub class : ClassDue r
-  pub due : r .due ≤ 20000000
+  pub due : r .due ≤ latestDue
 
 abbrev pub AllRanged : List Row → Type 0
 AllRanged rs = (i : ℕ) → i < length rs → RowRanged (getD rs i noRow)
@@ -53,10 +57,11 @@ by-number rows r zero m = let x : ⊥ = omega (arith, count-range 1 (length rows
 by-number rows r (suc i) m = r i (omega (arith, count-range 1 (length rows) m .1))
 
 -- The due that a class gives.
-class-due : (k : Class) (release length told c : ℕ) → Margined k → k ≡ Of c → (c < 8) × (dueBy k release length told ≡ release + length + margin c)
+class-due : (k : Class) (release minutes told c : ℕ) → Margined k → k ≡ Of c →
+    (c < 8) × (dueBy k release minutes told ≡ release + minutes + margin c)
 unfolding dueBy
-class-due None release length told c m e = never (cc)
-class-due (Of d) release length told c m e = let s : d ≡ c = cc in rw (← s) ((m, refl))
+class-due None release minutes told c m e = never (cc)
+class-due (Of d) release minutes told c m e = let s : d ≡ c = cc in rw (← s) ((m, refl))
 
 -- A pace that a book may tell.
 abbrev pub Paced : ℕ → Type 0
@@ -83,46 +88,49 @@ ranged-on rows r h g i l = go (ltb i (length rows)) (ltb-true i (length rows)) (
         let e : length rows ≡ i = omega (arith, length-append rows (r ∷ [])) in
         rw (getD-at rows r [] noRow i e) g
 
--- The rows `rows` and the rest `ws` gave the rows `rs`.
-pub record Taken (free pace : ℕ) (rows : List Row) (ws : List ℕ) (f : ℕ) (rs : List Row) : Type 0 where
-  pub same-free : f ≡ free
-  pub few : length rs ≤ 256
-  pub some : 1 ≤ length rs
-  pub words : length ws + 4 * length rows ≡ 4 * length rs + 1
-  pub ranged : Paced pace → AllRanged rows → AllRanged rs
+-- The rows `rows` and the rest `ws` gave the day.
+pub record Taken (free pace : ℕ) (rows : List Row) (ws : List ℕ) (day : Day) : Type 0 where
+  pub same-free : day .free ≡ free
+  pub few : length (day .rows) ≤ mostRows
+  pub some : 1 ≤ length (day .rows)
+  pub words : length ws + 4 * length rows ≡ 4 * length (day .rows) + 1
+  pub ranged : Paced pace → AllRanged rows → AllRanged (day .rows)
 
-end-taken : (free pace : ℕ) (rows : List Row) (place : ℕ) (ws : List ℕ) (f : ℕ) (rs : List Row) → length rows ≤ 256 → endStands (length rows) ws ≡ true →
-    refusedOr (endTests (length rows) place ws) (accepted free rows) ≡ accepted f rs → Taken free pace rows ws f rs
+end-taken : (free pace : ℕ) (rows : List Row) (place : ℕ) (ws : List ℕ) (day : Day) → length rows ≤ mostRows →
+    endStands (length rows) ws ≡ true →
+    refusedOr (endTests (length rows) place ws) (accepted (dayOf free rows)) ≡ accepted day → Taken free pace rows ws day
 unfolding endStands endTests
-end-taken free pace rows place ws f rs few e r =
-    let o = or-tests (endTests (length rows) place ws) (accepted free rows) r in
-    let k : accepted free rows ≡ accepted f rs = or-contents (endTests (length rows) place ws) (accepted free rows) r in
-    let frees : f ≡ free = cc in
-    let sames : rs ≡ rows = cc in
-    let n : length rs ≡ length rows = ap length sames in
+end-taken free pace rows place ws day few e r =
+    let o = or-tests (endTests (length rows) place ws) (accepted (dayOf free rows)) r in
+    let k : accepted (dayOf free rows) ≡ accepted day = or-contents (endTests (length rows) place ws) (accepted (dayOf free rows)) r in
+    let frees : day .free ≡ free = cc in
+    let sames : day .rows ≡ rows = cc in
+    let n : length (day .rows) ≡ length rows = ap length sames in
     let seven = eqb (kind (word ws 0)) 7 in
     let one : length ws ≤ 1 = ltb-false 1 (length ws) (not-refused (ltb 1 (length ws)) byTail (place + 1) (then-right _ _ o)) in
     let i : 0 < length rows = ltb-true 0 (length rows) (and-left (ltb 0 (length rows)) (ltb 0 (length ws) && seven) e) in
-    let j : 0 < length ws = ltb-true 0 (length ws) (and-left (ltb 0 (length ws)) seven (and-right (ltb 0 (length rows)) (ltb 0 (length ws) && seven) e)) in
+    let j : 0 < length ws =
+    ltb-true 0 (length ws) (and-left (ltb 0 (length ws)) seven (and-right (ltb 0 (length rows)) (ltb 0 (length ws) && seven) e)) in
     record { same-free = frees; few = omega arith; some = omega arith; words = omega arith; ranged = λ p h. subst AllRanged (sym sames) h }
 
-pub taken : (more free pace : ℕ) (rows : List Row) (place : ℕ) (ws : List ℕ) (f : ℕ) (rs : List Row) → length rows + more ≡ 257 →
-    readRows more free pace rows place ws ≡ accepted f rs → Taken free pace rows ws f rs
+pub taken : (more free pace : ℕ) (rows : List Row) (place : ℕ) (ws : List ℕ) (day : Day) → length rows + more ≡ triedRows →
+    readRows more free pace rows place ws ≡ accepted day → Taken free pace rows ws day
 unfolding readRows
-taken zero free pace rows place ws f rs h r = absurd (no-contents r)
-taken (suc more) free pace rows place ws f rs h r =
-    go (endStands (length rows) ws) refl (λ n. taken more free pace (rows ++ (rowOf pace ws ∷ [])) (place + 4) (drop 4 ws) f rs n)
+taken zero free pace rows place ws day h r = absurd (no-contents r)
+taken (suc more) free pace rows place ws day h r =
+    go (endStands (length rows) ws) refl (λ n. taken more free pace (rows ++ (rowOf pace ws ∷ [])) (place + 4) (drop 4 ws) day n)
   where
     next : Contents
     next = readRows more free pace (rows ++ (rowOf pace ws ∷ [])) (place + 4) (drop 4 ws)
 
     go : (b : Bool) → endStands (length rows) ws ≡ b →
-        (length (rows ++ (rowOf pace ws ∷ [])) + more ≡ 257 → next ≡ accepted f rs → Taken free pace (rows ++ (rowOf pace ws ∷ [])) (drop 4 ws) f rs) →
-        Taken free pace rows ws f rs
-    go true e later = end-taken free pace rows place ws f rs (omega arith) e (sym (read-end more free pace rows place ws e) ∙ r)
+        (length (rows ++ (rowOf pace ws ∷ [])) + more ≡ triedRows → next ≡ accepted day →
+        Taken free pace (rows ++ (rowOf pace ws ∷ [])) (drop 4 ws) day) →
+        Taken free pace rows ws day
+    go true e later = end-taken free pace rows place ws day (omega arith) e (sym (read-end more free pace rows place ws e) ∙ r)
     go false e later =
         let tests = rowTests (numbersOf rows) place ws in
-        let q : refusedOr tests next ≡ accepted f rs = sym (read-on more free pace rows place ws e) ∙ r in
+        let q : refusedOr tests next ≡ accepted day = sym (read-on more free pace rows place ws e) ∙ r in
         let fit = row-fits (numbersOf rows) place ws (or-tests tests next q) in
         let n : length (rows ++ (rowOf pace ws ∷ [])) ≡ length rows + 1 = length-append rows (rowOf pace ws ∷ []) in
         let w = later (omega arith) (or-contents tests next q) in
@@ -136,22 +144,23 @@ taken (suc more) free pace rows place ws f rs h r =
 
 -- The rows of a book whose head passed.
 abbrev pub bookRows : List ℕ → Contents
-bookRows ws = readRows 257 (value (word ws 0)) (value (word ws 1)) [] 2 (drop 2 ws)
+bookRows ws = readRows triedRows (value (word ws 0)) (value (word ws 1)) [] 2 (drop 2 ws)
 
 -- A book that passed tests 1 to 7: its head, its rows, and its length in words.
-pub record WholeBook (ws : List ℕ) (f : ℕ) (rs : List Row) : Type 0 where
+pub record WholeBook (ws : List ℕ) (day : Day) : Type 0 where
   pub head : HeadFit ws
-  pub free : f ≡ value (word ws 0)
-  pub few : length rs ≤ 256
-  pub some : 1 ≤ length rs
-  pub words : length ws ≡ 4 * length rs + 3
-  pub ranged : AllRanged rs
+  pub free : day .free ≡ value (word ws 0)
+  pub few : length (day .rows) ≤ mostRows
+  pub some : 1 ≤ length (day .rows)
+  pub words : length ws ≡ 4 * length (day .rows) + 3
+  pub ranged : AllRanged (day .rows)
 
-pub whole-words : (ws : List ℕ) (f : ℕ) (rs : List Row) → readWords ws ≡ accepted f rs → WholeBook ws f rs
+pub whole-words : (ws : List ℕ) (day : Day) → readWords ws ≡ accepted day → WholeBook ws day
 unfolding readWords
-whole-words ws f rs e =
+whole-words ws day e =
     let h = head-fits ws (or-tests (headTests ws) (bookRows ws) e) in
-    let t = taken 257 (value (word ws 0)) (value (word ws 1)) [] 2 (drop 2 ws) f rs refl (or-contents (headTests ws) (bookRows ws) e) in
+    let t = taken triedRows (value (word ws 0)) (value (word ws 1)) [] 2 (drop 2 ws) day refl
+    (or-contents (headTests ws) (bookRows ws) e) in
     record {
       head = h;
       free = t .same-free;
@@ -160,19 +169,3 @@ whole-words ws f rs e =
       words = omega (arith, t .words, h .pace .there, length-drop 2 ws);
       ranged = t .ranged (h .pace .least, h .pace .most) (λ i l. let x : ⊥ = omega arith in absurd x);
     }
-
--- A book that is accepted after one test more of its rows passed them, and the rows pass that test.
-module _ (tests : List Row → Tested) where
-  pub tested-contents : (x : Contents) (f : ℕ) (rs : List Row) → testedBy tests x ≡ accepted f rs → x ≡ accepted f rs
-  unfolding testedBy
-  tested-contents (refused n p) f rs e = e
-  tested-contents (accepted free rows) f rs e = or-contents (tests rows) (accepted free rows) e
-
-  pub tested-passed : (x : Contents) (f : ℕ) (rs : List Row) → testedBy tests x ≡ accepted f rs → tests rs ≡ Passed
-  unfolding testedBy
-  tested-passed (refused n p) f rs e = absurd (no-contents e)
-  tested-passed (accepted free rows) f rs e =
-      let k : accepted free rows ≡ accepted f rs = or-contents (tests rows) (accepted free rows) e in
-      let o : tests rows ≡ Passed = or-tests (tests rows) (accepted free rows) e in
-      let same : rows ≡ rs = cc in
-      ap tests (sym same) ∙ o

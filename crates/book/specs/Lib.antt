@@ -1,13 +1,2 @@
-pub mod Refusals
-pub mod Words
-pub mod Due
 pub mod Rows
-pub mod Pairs
-pub mod Order
-pub mod Columns
 pub mod Book
-pub mod Clashes
-pub mod Disorder
-pub mod Accepted
-pub mod OneClass
-pub mod NearestMinute

@@ -1,3 +1,1 @@
-pub mod Arrived
-pub mod Called
 pub mod Promise

@@ -1,22 +1,32 @@
--- Days worked through by first come, first due: a table of questions and expected answers, and the theorem that every entry holds of the definitions.
--- Rests on: FirstCome, the planner's Days.
+-- Days worked through by first come, first due: the table, and the theorem that every entry holds of the definitions.
+-- Rests on: the calls' Days.
+use Prim.Native.Nat.{ℕ}
 use mathlib.Core.Path.{_≡_, refl}
 use mathlib.Core.List.{List, [], _∷_, map}
-use Prim.Native.Nat.{ℕ}
 use lib.IntN.{pos, negsuc}
 use Rattle.schedule.specs.Rows.{openRows}
 use Rattle.schedule.specs.Desk.{openDesk}
 use Rattle.schedule.specs.Plans.{openPlans}
 use Rattle.schedule.specs.Arrival.{openArrival}
-use Rattle.book.specs.declared.Found.the-variants as found
+use Rattle.schedule.specs.Profiles.{openProfiles}
 use Rattle.book.specs.Rows.{refused}
-use Rattle.crossing.specs.Crossing.{openCrossing}
-use Rattle.planner.specs.declared.Listed.the-variants as listed
-use Rattle.planner.specs.declared.Judged.the-variants as judged
-use Rattle.planner.specs.Posting.{openPosting}
-use Rattle.planner.specs.Calls.{gives, openCalls}
-use Rattle.planner.specs.Days.{entry, wordOf, book, twoRows, apartRows, reading, list, bound, plan, posting, wordsOf, placeOf, reads, lists, judges, words, finds, Day, _gets_, plans, order, none, answerTo, Hold, hold}
-use Rattle.first_come.specs.FirstCome.{firstCome}
+use Rattle.row_calls.specs.Places.{openPlaces}
+use Rattle.row_calls.specs.declared.RowPlace.the-variants as row-place
+use Rattle.postings.specs.Posting.{openPosting}
+use Rattle.results.specs.Results.{openResults}
+use Rattle.calls.specs.declared.ListAnswer.the-variants as list-answer
+use Rattle.calls.specs.declared.VerdictAnswer.the-variants as verdict-answer
+use Rattle.calls.specs.Calls.{gives, openCalls}
+use Rattle.calls.specs.Days.{entry, wordOf, book, reading, list, bound, plan, posting, rowWordsOf, rowPlaceOf}
+use Rattle.calls.specs.Days.{reads, lists, judges, words, finds, Worked, _gets_, plans, order, turnedDown, answerTo, Hold, hold}
+use Rattle.first_come.specs.Promise.{firstCome}
+
+-- M1's two rows; three rows, of which the third disagrees with the first alone.
+abbrev pub twoRows : List ℕ
+twoRows = book 0 60 (entry 901 1 1 5 ∷ entry 902 0 10 12 ∷ [])
+
+abbrev pub apartRows : List ℕ
+apartRows = book 0 60 (entry 901 0 5 10 ∷ entry 902 0 18 20 ∷ entry 903 0 7 15 ∷ [])
 
 -- Two rows that come and are due together, below one that comes later; rows of which only the first and the third cross; rows due together.
 abbrev pub comingRows : List ℕ
@@ -28,38 +38,38 @@ crossedRows = book 0 60 (entry 901 0 1 30 ∷ entry 902 0 1 5 ∷ entry 903 4 1 
 abbrev pub dueTogether : List ℕ
 dueTogether = book 0 60 (entry 901 4 1 9 ∷ entry 902 0 2 9 ∷ [])
 
-abbrev pub days : List Day
+abbrev pub days : List Worked
 days =
     -- One plan, by release, then due, then row: also where the later row is shorter.
     (list comingRows (0 ∷ 0 ∷ 7 ∷ 7 ∷ 7 ∷ 7 ∷ []) gets plans 1 (15 ∷ 1 ∷ 7 ∷ 7 ∷ 7 ∷ 7 ∷ [])) ∷
-    (list comingRows (1 ∷ 2 ∷ 3 ∷ 4 ∷ 5 ∷ []) gets lists (gives (listed.Refused 9 0) (1 ∷ 2 ∷ 3 ∷ 4 ∷ 5 ∷ []))) ∷
+    (list comingRows (1 ∷ 2 ∷ 3 ∷ 4 ∷ 5 ∷ []) gets lists (gives (list-answer.Refused 9 0) (1 ∷ 2 ∷ 3 ∷ 4 ∷ 5 ∷ []))) ∷
     (plan comingRows 1 (0 ∷ 0 ∷ 0 ∷ 8 ∷ []) gets order 15 (pos 1) (2 ∷ 3 ∷ 1 ∷ 8 ∷ [])) ∷
-    (plan comingRows 0 [] gets none 11 1 []) ∷
-    (plan comingRows 2 [] gets none 11 1 []) ∷
-    (plan comingRows 1 (5 ∷ []) gets none 9 0 (5 ∷ [])) ∷
+    (plan comingRows 0 [] gets turnedDown 11 1 []) ∷
+    (plan comingRows 2 [] gets turnedDown 11 1 []) ∷
+    (plan comingRows 1 (5 ∷ []) gets turnedDown 9 0 (5 ∷ [])) ∷
     -- A bound gives it if its worst lateness is at most the bound.
     (bound comingRows (pos 6) (0 ∷ 0 ∷ 0 ∷ []) gets order 15 (pos 1) (2 ∷ 3 ∷ 1 ∷ [])) ∷
     (bound comingRows (pos 1) (0 ∷ 0 ∷ 0 ∷ []) gets order 15 (pos 1) (2 ∷ 3 ∷ 1 ∷ [])) ∷
-    (bound comingRows (pos 0) (4 ∷ 5 ∷ 6 ∷ []) gets none 12 0 (4 ∷ 5 ∷ 6 ∷ [])) ∷
+    (bound comingRows (pos 0) (4 ∷ 5 ∷ 6 ∷ []) gets turnedDown 12 0 (4 ∷ 5 ∷ 6 ∷ [])) ∷
     -- Postings: beaten by the one plan; unbeaten, with its pair; not every row once.
-    (posting comingRows (1 ∷ 2 ∷ 3 ∷ []) gets judges (judged.Beaten 20 (pos 8) 1)) ∷
-    (posting comingRows (3 ∷ 2 ∷ 1 ∷ []) gets judges (judged.Unbeaten 15 (pos 1))) ∷
-    (posting comingRows (3 ∷ 2 ∷ 3 ∷ []) gets judges (judged.Refused 10 2)) ∷
+    (posting comingRows (1 ∷ 2 ∷ 3 ∷ []) gets judges (verdict-answer.Beaten 20 (pos 8) 1)) ∷
+    (posting comingRows (3 ∷ 2 ∷ 1 ∷ []) gets judges (verdict-answer.Unbeaten 15 (pos 1))) ∷
+    (posting comingRows (3 ∷ 2 ∷ 3 ∷ []) gets judges (verdict-answer.Refused 10 2)) ∷
     -- A row's words and their place.
-    (wordsOf comingRows 3 gets words (wordOf 3 903 ∷ wordOf 4 0 ∷ wordOf 5 3 ∷ wordOf 6 12 ∷ [])) ∷
-    (placeOf comingRows 3 gets finds (found.At 10)) ∷
-    (placeOf comingRows 4 gets finds (found.Refused 11 3)) ∷
+    (rowWordsOf comingRows 3 gets words (wordOf 3 903 ∷ wordOf 4 0 ∷ wordOf 5 3 ∷ wordOf 6 12 ∷ [])) ∷
+    (rowPlaceOf comingRows 3 gets finds (row-place.At 10)) ∷
+    (rowPlaceOf comingRows 4 gets finds (row-place.Refused 11 3)) ∷
     -- M1's rows cross, although they agree; so do a first and a third row, at the third. Rows due together do not.
-    (reading (twoRows 12) gets reads (refused 13 6)) ∷
-    (list crossedRows (1 ∷ []) gets lists (gives (listed.Refused 13 10) (1 ∷ []))) ∷
-    (wordsOf crossedRows 1 gets words []) ∷
+    (reading twoRows gets reads (refused 13 6)) ∷
+    (list crossedRows (1 ∷ []) gets lists (gives (list-answer.Refused 13 10) (1 ∷ []))) ∷
+    (rowWordsOf crossedRows 1 gets words []) ∷
     (plan dueTogether 1 (0 ∷ 0 ∷ []) gets order 5 (negsuc 3) (2 ∷ 1 ∷ [])) ∷
     -- Rows that disagree, and do not cross.
     (plan apartRows 1 (0 ∷ 0 ∷ 0 ∷ []) gets order 30 (pos 10) (1 ∷ 3 ∷ 2 ∷ [])) ∷
     []
 
-answered : map (λ (d : Day). answerTo firstCome (d .asked)) days ≡ map (λ (d : Day). d .told) days
-unfolding openRows openDesk openPlans openArrival openCrossing openPosting openCalls
+answered : map (λ (d : Worked). answerTo firstCome (d .asked)) days ≡ map (λ (d : Worked). d .told) days
+unfolding openRows openDesk openPlans openArrival openProfiles openPlaces openPosting openResults openCalls
 answered = refl
 
 pub days-hold : Hold firstCome days

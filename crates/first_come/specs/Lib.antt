@@ -1,4 +1,2 @@
-pub mod FirstCome
-pub mod Working
-pub mod Days
 pub mod Promise
+pub mod Days

@@ -1,10 +1,10 @@
 -- From an answer through its fields, and a call's outcome, to what crosses the boundary.
 -- Assumes nothing.
 use mathlib.Core.Path.{_≡_, ap, _∙_}
-use Rattle.planner.specs.Calls.{Outcome}
-use Rattle.planner.specs.Answers.{Said}
-use Rattle.jelvaksna.specs.declared.Answer.{Answer}
-use Rattle.jelvaksna.specs.Boundary.{answerOf}
+use Rattle.calls.specs.Calls.{Outcome}
+use Rattle.calls.specs.Answers.{Said}
+use Rattle.answers.specs.declared.Answer.{Answer}
+use Rattle.answers.specs.Boundary.{answerOf}
 
 -- `o` is what the called function gives, `q` what its call is defined to give.
 pub through : {A : Type 0} (said : A → Said) (answer : Answer) (o q : Outcome A) → answer ≡ answerOf (said (o .answer)) → o ≡ q →

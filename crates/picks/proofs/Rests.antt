@@ -9,7 +9,7 @@ use lib.Dec.{eqb}
 use borrow.Author.Tests.{eqb-true, eqb-false}
 use Rattle.schedule.specs.Rows.{without}
 use Rattle.schedule.proofs.Orders.{mem-without}
-use Rattle.picks.specs.Standing.{Apart}
+use Rattle.picks.specs.Standing.{Distinct}
 
 -- Every other row stays,
 pub kept-without : (j i : ℕ) (is : List ℕ) → List·Memᴰ j is → (j ≡ i → ⊥) → List·Memᴰ j (without i is)
@@ -24,7 +24,7 @@ kept-without j i (k ∷ ks) m n = go (eqb i k) refl (List·Memᴰ·cases-cons m)
     go false e (inr o) f = List·Memᴰ·tail (f o)
 
 -- and the row itself is gone where none stands twice.
-gone-without : (i : ℕ) (is : List ℕ) → Apart is → List·Memᴰ i (without i is) → ⊥
+gone-without : (i : ℕ) (is : List ℕ) → Distinct is → List·Memᴰ i (without i is) → ⊥
 unfolding without
 gone-without i [] a m = List·Memᴰ·not-nil m
 gone-without i (k ∷ ks) a m = go (eqb i k) refl m (gone-without i ks (a .1))
@@ -37,14 +37,14 @@ gone-without i (k ∷ ks) a m = go (eqb i k) refl m (gone-without i ks (a .1))
         cases (inl x) = eqb-false i k e x
         cases (inr o) = f o
 
-pub other-without : {j : ℕ} (i : ℕ) (is : List ℕ) → Apart is → List·Memᴰ j (without i is) → j ≡ i → ⊥
+pub other-without : {j : ℕ} (i : ℕ) (is : List ℕ) → Distinct is → List·Memᴰ j (without i is) → j ≡ i → ⊥
 other-without i is a m x = gone-without i is a (subst (λ (y : ℕ). List·Memᴰ y (without i is)) x m)
 
-pub apart-without : (i : ℕ) (is : List ℕ) → Apart is → Apart (without i is)
+pub apart-without : (i : ℕ) (is : List ℕ) → Distinct is → Distinct (without i is)
 unfolding without
 apart-without i [] a = tt
 apart-without i (k ∷ ks) a = go (eqb i k) (apart-without i ks (a .1))
   where
-    go : (c : Bool) → Apart (without i ks) → Apart (cond c ks (k ∷ without i ks))
+    go : (c : Bool) → Distinct (without i ks) → Distinct (cond c ks (k ∷ without i ks))
     go true f = a .1
     go false f = (λ m. a .0 (mem-without i ks m), f)

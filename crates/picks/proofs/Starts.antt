@@ -13,10 +13,10 @@ use Rattle.schedule.specs.Offset.{deskAt}
 use Rattle.schedule.specs.declared.Desk.{Desk}
 use Rattle.schedule.proofs.Numbers.{length-count, count-range, from-mem}
 use Rattle.schedule.proofs.Tests.{apart}
-use Rattle.picks.specs.Standing.{Apart, Tables, Stands, Late, Sits}
+use Rattle.picks.specs.Standing.{Distinct, Tables, Stands, Late, Sits}
 use Rattle.picks.proofs.Bits.{word-zero}
 
-count-apart : (i m : ℕ) → Apart (countFrom i m)
+count-apart : (i m : ℕ) → Distinct (countFrom i m)
 unfolding countFrom
 count-apart i zero = tt
 count-apart i (suc m) = (λ h. omega (arith, count-range (suc i) m h .0), count-apart (suc i) m)

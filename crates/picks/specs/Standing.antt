@@ -14,9 +14,9 @@ use Rattle.picks.specs.declared.Standing.{Standing}
 use Rattle.picks.specs.Bits.{Words}
 
 -- No row stands twice.
-abbrev pub Apart : List ℕ → Type 0
-Apart [] = Unit {0}
-Apart (i ∷ is) = (List·Memᴰ i is → ⊥) × Apart is
+abbrev pub Distinct : List ℕ → Type 0
+Distinct [] = Unit {0}
+Distinct (i ∷ is) = (List·Memᴰ i is → ⊥) × Distinct is
 
 module _ (n : ℕ) (job : ℕ → Job) (by : ℕ → ℕ) where
   -- The tables that picks go by: the rows 1 to n stand by rank, and `by` has them by release.
@@ -29,7 +29,7 @@ module _ (n : ℕ) (job : ℕ → Job) (by : ℕ → ℕ) where
   pub record Stands (t : ℕ) (rest : List ℕ) (next : ℕ) (ready : List ℕ) : Type 0 where
     pub set : ℕ → Bool
     pub words : Words set ready
-    pub apart : Apart rest
+    pub apart : Distinct rest
     pub rows : (i : ℕ) → List·Memᴰ i rest → (1 ≤ i) × (i ≤ n)
     pub on : (i : ℕ) → set i ≡ true → List·Memᴰ i rest × (job i .release ≤ t)
     pub off : (i : ℕ) → List·Memᴰ i rest → set i ≡ false → (k : ℕ) × (next ≤ k) × (k < n) × (by k ≡ i)

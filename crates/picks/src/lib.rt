@@ -94,7 +94,7 @@ fn wide(x: u32) -> usize
 }
 
 // The first pick, from the least row j of the set, 0 for none: it, or the next row ahead, or 0.
-fn front(by: &[u32; Desk::ROWS], n: usize, j: usize, next: usize) -> usize
+fn front(by: &[u32; Desk::PLACES], n: usize, j: usize, next: usize) -> usize
     requires { ⌜ n ≤ mostRows ⌝ }
     ensures { λ r. ⌜ ((job : ℕ → Job) (t : ℕ) (rest ready : List ℕ) → Tables n job (at (now (by .entry))) →
         (s : Stands n job (at (now (by .entry))) t rest next ready) → Least (s .set) j → Late n job (at (now (by .entry))) t next → r ≡ firstPick job t rest) ⌝ }
@@ -109,7 +109,7 @@ fn front(by: &[u32; Desk::ROWS], n: usize, j: usize, next: usize) -> usize
 }
 
 // Both picks.
-pub fn picks(by: &[u32; Desk::ROWS], n: usize, ready: &[u64; 5], next: usize) -> Picked
+pub fn picks(by: &[u32; Desk::PLACES], n: usize, ready: &[u64; 5], next: usize) -> Picked
     requires { ⌜ (n ≤ mostRows) × ((job : ℕ → Job) × (t : ℕ) × (rest : List ℕ) × Tables n job (at (now by)) × Stands n job (at (now by)) t rest next (now ready)) ⌝ }
     ensures { λ r. ⌜ ((job : ℕ → Job) (t : ℕ) (rest : List ℕ) → Tables n job (at (now (by .entry))) →
         Stands n job (at (now (by .entry))) t rest next (now (ready .entry)) → Late n job (at (now (by .entry))) t next →
@@ -139,7 +139,7 @@ pub fn picks(by: &[u32; Desk::ROWS], n: usize, ready: &[u64; 5], next: usize) ->
 // The rows ahead that are released by the minute t are put into the set; the place from which on rows are ahead then.
 fn advance(
     release: &[u32; Desk::PLACES],
-    by: &[u32; Desk::ROWS],
+    by: &[u32; Desk::PLACES],
     n: usize,
     ready: &mut [u64; 5],
     from: usize,
@@ -166,7 +166,7 @@ pub fn take(
     release: &[u32; Desk::PLACES],
     length: &[u32; Desk::PLACES],
     due: &[u32; Desk::PLACES],
-    by: &[u32; Desk::ROWS],
+    by: &[u32; Desk::PLACES],
     n: usize,
     desk: Desk,
     next: usize,
@@ -192,7 +192,12 @@ pub fn take(
 }
 
 // A desk with nothing done yet.
-pub fn start(release: &[u32; Desk::PLACES], by: &[u32; Desk::ROWS], n: usize, free: u32) -> Standing
+pub fn start(
+    release: &[u32; Desk::PLACES],
+    by: &[u32; Desk::PLACES],
+    n: usize,
+    free: u32,
+) -> Standing
     requires { ⌜ ((length due : List ℕ) × Tables n (columns (now release) length due) (at (now by))) × EndsInTime free n ⌝ }
     ensures { λ r. ⌜ ((length due : List ℕ) → Tables n (columns (now (release .entry)) length due) (at (now (by .entry))) → Sits n (columns (now (release .entry)) length due) (at (now (by .entry))) (countFrom 1 n) r) ×
         (r .desk ≡ deskAt free) × (r .count ≡ 0) ⌝ }

@@ -1,9 +1,1 @@
-pub mod Posting
-pub mod CallLaws
 pub mod Promise
-pub mod Memory
-pub mod Held
-pub mod Words
-pub mod Verdicts
-pub mod Plannings
-pub mod Answered

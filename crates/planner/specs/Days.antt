@@ -1,47 +1,27 @@
--- The days worked through, M1 to M13, days with classes, with rows as they arrive and with reading times between whole minutes: a table of questions and expected answers, and the theorem that every entry holds of the definitions.
--- Rests on: Calls, Lines, the book.
-use Prim.Native.Nat.{ℕ, _+_, _*_}
-use mathlib.Core.Path.{_≡_, refl, sym, ap, _∙_}
-use mathlib.Core.List.{List, [], _∷_, _++_, map, List·Memᴰ, List·Memᴰ·head, List·Memᴰ·tail, head-eq-of-cons-eq, tail-eq-of-cons-eq}
-use lib.ListN.{length}
+-- The days worked through, M1 to M13, days with classes, with rows as they arrive and with reading times between whole minutes: the table, and the
+-- theorem that every entry holds of the definitions. Rests on: the calls' Days.
+use Prim.Native.Nat.{ℕ}
+use mathlib.Core.Path.{_≡_, refl}
+use mathlib.Core.List.{List, [], _∷_, map}
 use lib.IntN.{ℤ, pos, negsuc}
-use Rattle.schedule.specs.declared.Class.the-variants.{None, Of}
+use Rattle.schedule.specs.declared.Class.the-variants.{None}
 use Rattle.schedule.specs.Rows.{openRows}
 use Rattle.schedule.specs.Desk.{openDesk}
 use Rattle.schedule.specs.Picks.{openPicks}
 use Rattle.schedule.specs.Plans.{openPlans}
-use Rattle.book.specs.declared.Found.{Found}
-use Rattle.book.specs.declared.Found.the-variants as found
-use Rattle.book.specs.Refusals.{openRefusals}
-use Rattle.book.specs.Rows.{Contents, refused, accepted}
-use Rattle.book.specs.Rows.{lengthOf as lengthFor}
-use Rattle.book.specs.Book.{openBook}
-use Rattle.planner.specs.declared.Listed.{Listed}
-use Rattle.planner.specs.declared.Listed.the-variants as listed
-use Rattle.planner.specs.declared.Ordered.{Ordered}
-use Rattle.planner.specs.declared.Ordered.the-variants as ordered
-use Rattle.planner.specs.declared.Judged.{Judged}
-use Rattle.planner.specs.declared.Judged.the-variants as judged
-use Rattle.planner.specs.Posting.{openPosting}
-use Rattle.planner.specs.Calls.{Outcome, gives, Profile, orderingRule, listCall, boundCall, planCall, verdictCall, placeCall, wordsCall, openCalls}
-use Rattle.planner.specs.Lines.{Line, Printed, listing, printed, openLines}
-
--- A row of a book as the days give it: number, release, pages and due, or class.
-pub data Entry : Type 0 where
-  entry : ℕ → ℕ → ℕ → ℕ → Entry
-  sold : ℕ → ℕ → ℕ → ℕ → Entry
-
--- A word of a kind and a value, and the words of a book.
-abbrev pub wordOf : ℕ → ℕ → ℕ
-wordOf k v = k * 536870912 + v
-
-abbrev pub entryWords : List Entry → List ℕ
-entryWords [] = []
-entryWords (entry n r p d ∷ es) = wordOf 3 n ∷ wordOf 4 r ∷ wordOf 5 p ∷ wordOf 6 d ∷ entryWords es
-entryWords (sold n r p c ∷ es) = wordOf 3 n ∷ wordOf 4 r ∷ wordOf 5 p ∷ wordOf 0 c ∷ entryWords es
-
-abbrev pub book : (free pace : ℕ) → List Entry → List ℕ
-book free pace es = wordOf 1 free ∷ wordOf 2 pace ∷ (entryWords es ++ (wordOf 7 (length es) ∷ []))
+use Rattle.schedule.specs.Profiles.{openProfiles}
+use Rattle.book.specs.Rows.{refused, accepted}
+use Rattle.row_calls.specs.Places.{openPlaces}
+use Rattle.row_calls.specs.declared.RowPlace.the-variants as row-place
+use Rattle.postings.specs.Posting.{openPosting}
+use Rattle.results.specs.Results.{openResults}
+use Rattle.calls.specs.declared.ListAnswer.the-variants as list-answer
+use Rattle.calls.specs.declared.VerdictAnswer.the-variants as verdict-answer
+use Rattle.calls.specs.Calls.{gives, openCalls}
+use Rattle.calls.specs.Lines.{listing, openLines}
+use Rattle.calls.specs.Days.{entry, sold, wordOf, book, reading, printing, list, bound, plan, posting, rowWordsOf, rowPlaceOf, lengthOf}
+use Rattle.calls.specs.Days.{reads, prints, lists, judges, words, finds, takes, Worked, _gets_, lasts, due, plans, order, turnedDown, line, answerTo, Hold, hold}
+use Rattle.planner.specs.Promise.{orderingRule}
 
 -- M1's book, with the due of row 2 open for M7 and M8, also with its rows swapped; M2 to M6; M9; M10; M13, also with its rows mixed.
 abbrev pub twoRows : ℕ → List ℕ
@@ -93,69 +73,7 @@ soldRow pages pace = book 0 pace (sold 901 10 pages 0 ∷ [])
 abbrev pub otherWord : ℕ → ℕ → List ℕ
 otherWord k v = wordOf 1 0 ∷ wordOf 2 60 ∷ wordOf 3 901 ∷ wordOf 4 10 ∷ wordOf 5 5 ∷ wordOf k v ∷ wordOf 7 1 ∷ []
 
--- What is asked: the reading of a book, what slate prints, one of the calls, or a length.
-pub data Asked : Type 0 where
-  reading : List ℕ → Asked
-  printing : List ℕ → Asked
-  list : List ℕ → List ℕ → Asked
-  bound : List ℕ → ℤ → List ℕ → Asked
-  plan : List ℕ → ℕ → List ℕ → Asked
-  posting : List ℕ → List ℕ → Asked
-  wordsOf : List ℕ → ℕ → Asked
-  placeOf : List ℕ → ℕ → Asked
-  lengthOf : (pages pace : ℕ) → Asked
-
--- What is answered.
-pub data Told : Type 0 where
-  reads : Contents → Told
-  prints : Printed → Told
-  lists : Outcome Listed → Told
-  orders : Outcome Ordered → Told
-  judges : Judged → Told
-  words : List ℕ → Told
-  finds : Found → Told
-  takes : ℕ → Told
-
--- By a profile; what slate prints is by the ordering rule, and a length is by none.
-abbrev pub answerTo : Profile → Asked → Told
-answerTo profile (reading b) = reads (profile .reads b)
-answerTo profile (printing b) = prints (printed b)
-answerTo profile (list b buffer) = lists (listCall profile b buffer)
-answerTo profile (bound b y buffer) = orders (boundCall profile b y buffer)
-answerTo profile (plan b k buffer) = orders (planCall profile b k buffer)
-answerTo profile (posting b order) = judges (verdictCall profile b order)
-answerTo profile (wordsOf b k) = words (wordsCall profile b k)
-answerTo profile (placeOf b k) = finds (placeCall profile b k)
-answerTo profile (lengthOf pages pace) = takes (lengthFor pages pace)
-
-pub record Day : Type 0 where
-  pub asked : Asked
-  pub told : Told
-
-abbrev pub _gets_ : Asked → Told → Day
-a gets b = record { asked = a; told = b }
-
-infix 10 _gets_
--- How answers are written in the table: a book of one row with its length, due and class, or of length 5; plans with the buffer; an order's end and lateness with the buffer; a refusal with the buffer; a line.
-abbrev pub lasts : (length due class : ℕ) → Told
-lasts n d c = reads (accepted 0 (record { number = 901; release = 10; length = n; due = d; class = Of c } ∷ []))
-
-abbrev pub due : ℕ → ℕ → Told
-due d c = lasts 5 d c
-
-abbrev pub plans : ℕ → List ℕ → Told
-plans k b = lists (gives (listed.Plans k) b)
-
-abbrev pub order : ℕ → ℤ → List ℕ → Told
-order e y b = orders (gives (ordered.Pair e y) b)
-
-abbrev pub none : ℕ → ℕ → List ℕ → Told
-none n p b = orders (gives (ordered.Refused n p) b)
-
-abbrev pub line : ℕ → ℤ → List ℕ → Line
-line e y ns = record { end = e; late = y; numbers = ns }
-
-abbrev pub days : List Day
+abbrev pub days : List Worked
 days =
     -- M1: the two-row book; two plans.
     (printing (twoRows 12) gets prints (listing 2 (line 11 (pos 6) (902 ∷ 901 ∷ []) ∷ line 12 (pos 0) (901 ∷ 902 ∷ []) ∷ []))) ∷
@@ -165,17 +83,20 @@ days =
     -- M2: with row 903 added there is one plan.
     (printing threeRows gets prints (listing 3 (line 25 (pos 0) (901 ∷ 902 ∷ 903 ∷ []) ∷ []))) ∷
     (list threeRows (0 ∷ 0 ∷ 0 ∷ 0 ∷ 0 ∷ 0 ∷ []) gets plans 1 (25 ∷ 0 ∷ 0 ∷ 0 ∷ 0 ∷ 0 ∷ [])) ∷
-    (list threeRows (1 ∷ 2 ∷ 3 ∷ 4 ∷ 5 ∷ []) gets lists (gives (listed.Refused 9 0) (1 ∷ 2 ∷ 3 ∷ 4 ∷ 5 ∷ []))) ∷
-    (plan threeRows 2 [] gets none 11 1 []) ∷
+    (list threeRows (1 ∷ 2 ∷ 3 ∷ 4 ∷ 5 ∷ []) gets lists (gives (list-answer.Refused 9 0) (1 ∷ 2 ∷ 3 ∷ 4 ∷ 5 ∷ []))) ∷
+    (plan threeRows 2 [] gets turnedDown 11 1 []) ∷
     -- M3, M4, M5: the bounds 6, 0 and -1 in M2.
     (bound threeRows (pos 6) (0 ∷ 0 ∷ 0 ∷ []) gets order 25 (pos 6) (2 ∷ 1 ∷ 3 ∷ [])) ∷
     (bound threeRows (pos 0) (0 ∷ 0 ∷ 0 ∷ 8 ∷ []) gets order 25 (pos 0) (1 ∷ 2 ∷ 3 ∷ 8 ∷ [])) ∷
-    (bound threeRows (negsuc 0) (0 ∷ 0 ∷ 0 ∷ []) gets none 12 0 (0 ∷ 0 ∷ 0 ∷ [])) ∷
+    (bound threeRows (negsuc 0) (0 ∷ 0 ∷ 0 ∷ []) gets turnedDown 12 0 (0 ∷ 0 ∷ 0 ∷ [])) ∷
     -- M6: the posting 2 1 3 in M2 is beaten by plan 1.
-    (posting threeRows (2 ∷ 1 ∷ 3 ∷ []) gets judges (judged.Beaten 25 (pos 6) 1)) ∷
+    (posting threeRows (2 ∷ 1 ∷ 3 ∷ []) gets judges (verdict-answer.Beaten 25 (pos 6) 1)) ∷
     -- M7, M8: M1 with row 2 due 13 is accepted, due 14 is refused 8 at 6.
-    (reading (twoRows 13) gets reads (accepted 0 (
-    record { number = 901; release = 1; length = 1; due = 5; class = None } ∷ record { number = 902; release = 0; length = 10; due = 13; class = None } ∷ []))) ∷
+    (reading (twoRows 13) gets reads (accepted (record {
+      free = 0;
+      rows =
+          record { number = 901; release = 1; length = 1; due = 5; class = None } ∷ record { number = 902; release = 0; length = 10; due = 13; class = None } ∷ [];
+    }))) ∷
     (reading (twoRows 14) gets reads (refused 8 6)) ∷
     -- M9: one row, free 7.
     (plan oneRow 1 (0 ∷ []) gets order 11 (pos 1) (1 ∷ [])) ∷
@@ -190,9 +111,9 @@ days =
     (plan fourRows 1 (0 ∷ 0 ∷ 0 ∷ 0 ∷ []) gets order 121 (pos 17) (2 ∷ 1 ∷ 4 ∷ 3 ∷ [])) ∷
     (plan fourRows 2 (0 ∷ 0 ∷ 0 ∷ 0 ∷ []) gets order 122 (pos 0) (1 ∷ 2 ∷ 3 ∷ 4 ∷ [])) ∷
     -- A row's words and their place, in M13.
-    (wordsOf fourRows 2 gets words (wordOf 3 902 ∷ wordOf 4 0 ∷ wordOf 5 10 ∷ wordOf 6 12 ∷ [])) ∷
-    (placeOf fourRows 2 gets finds (found.At 6)) ∷
-    (placeOf fourRows 5 gets finds (found.Refused 11 4)) ∷
+    (rowWordsOf fourRows 2 gets words (wordOf 3 902 ∷ wordOf 4 0 ∷ wordOf 5 10 ∷ wordOf 6 12 ∷ [])) ∷
+    (rowPlaceOf fourRows 2 gets finds (row-place.At 6)) ∷
+    (rowPlaceOf fourRows 5 gets finds (row-place.Refused 11 4)) ∷
     -- Classes: the eight margins, after release 10 and length 5; class 8 is out of range, and another kind is not due there.
     (reading (classRow 0) gets due 75 0) ∷
     (reading (classRow 1) gets due 135 1) ∷
@@ -208,7 +129,7 @@ days =
     -- A class above a due: row 901 is due 62.
     (list classAndDue (0 ∷ 0 ∷ 0 ∷ 0 ∷ []) gets plans 2 (11 ∷ 4294967245 ∷ 12 ∷ 4294967238 ∷ [])) ∷
     (printing classAndDue gets prints (listing 2 (line 11 (negsuc 50) (902 ∷ 901 ∷ []) ∷ line 12 (negsuc 57) (901 ∷ 902 ∷ []) ∷ []))) ∷
-    (wordsOf classAndDue 1 gets words (wordOf 3 901 ∷ wordOf 4 1 ∷ wordOf 5 1 ∷ wordOf 0 0 ∷ [])) ∷
+    (rowWordsOf classAndDue 1 gets words (wordOf 3 901 ∷ wordOf 4 1 ∷ wordOf 5 1 ∷ wordOf 0 0 ∷ [])) ∷
     -- Two rows of class 1: the second is due with the first, or a minute sooner.
     (plan (classRows 5) 1 (0 ∷ 0 ∷ []) gets order 7 (negsuc 117) (2 ∷ 1 ∷ [])) ∷
     (plan (classRows 4) 1 (0 ∷ 0 ∷ []) gets order 6 (negsuc 118) (2 ∷ 1 ∷ [])) ∷
@@ -217,7 +138,7 @@ days =
     (list mixedRows (0 ∷ 0 ∷ 0 ∷ 0 ∷ 0 ∷ 0 ∷ 0 ∷ 0 ∷ []) gets plans 2 (121 ∷ 17 ∷ 122 ∷ 0 ∷ 0 ∷ 0 ∷ 0 ∷ 0 ∷ [])) ∷
     (plan mixedRows 1 (0 ∷ 0 ∷ 0 ∷ 0 ∷ []) gets order 121 (pos 17) (4 ∷ 2 ∷ 1 ∷ 3 ∷ [])) ∷
     (plan mixedRows 2 (0 ∷ 0 ∷ 0 ∷ 0 ∷ []) gets order 122 (pos 0) (2 ∷ 4 ∷ 3 ∷ 1 ∷ [])) ∷
-    (posting mixedRows (2 ∷ 4 ∷ 3 ∷ 1 ∷ []) gets judges (judged.Unbeaten 122 (pos 0))) ∷
+    (posting mixedRows (2 ∷ 4 ∷ 3 ∷ 1 ∷ []) gets judges (verdict-answer.Unbeaten 122 (pos 0))) ∷
     (reading (swappedRows 14) gets reads (refused 8 6)) ∷
     (reading apartRows gets reads (refused 8 10)) ∷
     -- Equal dues with different spare: the smaller release plus length goes first, be it the shorter or the longer row; then the smaller row.
@@ -243,20 +164,8 @@ days =
     (reading (nearestRows 14) gets reads (refused 8 6)) ∷
     []
 
--- Two functions that give one list over a list agree at each of its elements.
-agree : {A B : Type 0} (f g : A → B) {l : List A} → map f l ≡ map g l → {a : A} → List·Memᴰ a l → f a ≡ g a
-agree f g e (List·Memᴰ·head p) = ap f p ∙ head-eq-of-cons-eq e ∙ ap g (sym p)
-agree f g e (List·Memᴰ·tail m) = agree f g (tail-eq-of-cons-eq e) m
-
--- A table of days holds of a profile: each is answered as the table says.
-abbrev pub Hold : Profile → List Day → Type 0
-Hold profile table = (d : Day) → List·Memᴰ d table → answerTo profile (d .asked) ≡ d .told
-
-pub hold : (profile : Profile) (table : List Day) → map (λ (d : Day). answerTo profile (d .asked)) table ≡ map (λ (d : Day). d .told) table → Hold profile table
-hold profile table e d = agree (λ (d : Day). answerTo profile (d .asked)) (λ (d : Day). d .told) e
-
-answered : map (λ (d : Day). answerTo orderingRule (d .asked)) days ≡ map (λ (d : Day). d .told) days
-unfolding openRows openDesk openPicks openPlans openRefusals openBook openPosting openCalls openLines
+answered : map (λ (d : Worked). answerTo orderingRule (d .asked)) days ≡ map (λ (d : Worked). d .told) days
+unfolding openRows openDesk openPicks openPlans openProfiles openPlaces openPosting openResults openCalls openLines
 answered = refl
 
 pub days-hold : Hold orderingRule days

@@ -8,11 +8,12 @@ use mathlib.Core.Path.{_≡_, refl, sym, ap, _∙_, subst}
 use mathlib.Core.List.{List, [], _∷_}
 use lib.ListN.{length, take, getD, set, length-set, replicate, length-replicate}
 use lib.Seq.{getD-set-same, getD-set-other, getD-take}
+use Rattle.schedule.specs.Limits.{mostRows, rowPlaces}
 use Rattle.schedule.specs.declared.Row.{Row}
 use Rattle.schedule.specs.Rows.{noRow, row}
 
 abbrev pub Column : (Row → ℕ) → List ℕ → List Row → Type 0
-Column f column rows = (length column ≡ 257) × ((i : ℕ) → getD column i 0 ≡ f (row rows i))
+Column f column rows = (length column ≡ rowPlaces) × ((i : ℕ) → getD column i 0 ≡ f (row rows i))
 
 zeros : (n i : ℕ) → _≡_ {A = ℕ} (getD (replicate n 0) i 0) 0
 zeros zero i = refl
@@ -43,10 +44,11 @@ same-other rows n (suc i) h = step (decLt i n)
         next-past (no e) = omega arith
 
 module _ (f : Row → ℕ) where
-  pub column-none : f noRow ≡ 0 → Column f (replicate 257 0) []
-  column-none e = (length-replicate {A = ℕ} 257 0, λ i. zeros 257 i ∙ sym (ap f (nothing i) ∙ e))
+  pub column-none : f noRow ≡ 0 → Column f (replicate rowPlaces 0) []
+  column-none e = (length-replicate {A = ℕ} rowPlaces 0, λ i. zeros rowPlaces i ∙ sym (ap f (nothing i) ∙ e))
 
-  pub column-more : (column : List ℕ) (rows : List Row) (n : ℕ) (r : Row) → n < 256 → r ≡ getD rows n noRow → Column f column (take n rows) →
+  pub column-more : (column : List ℕ) (rows : List Row) (n : ℕ) (r : Row) → n < mostRows → r ≡ getD rows n noRow →
+      Column f column (take n rows) →
       Column f (set column (n + 1) (f r)) (take (n + 1) rows)
   column-more column rows n r h e a = (
     length-set column (n + 1) (f r) ∙ a .0,

@@ -30,6 +30,7 @@ use borrow.Struct.Behind.{look-at}
 use borrow.Struct.Items.{cut-records}
 use borrow.Struct.Share.{part-cut, shr-part}
 use borrow.Rule.Array.AsSlice.{shr-arr-slice}
+use Rattle.schedule.specs.Limits.{mostRows}
 use Rattle.schedule.specs.declared.Row.{Row}
 use Rattle.book.specs.declared.Table.{Table}
 use Rattle.schedule.proofs.Row as T
@@ -72,21 +73,21 @@ module _ {M : Type 1} (𝓤 : URA M) (H : Heap 𝓤) (A : Atoms 𝓤) (W : Given
 
 -- ---- the rows of a table in memory
 module _ {M : Type 1} (𝓤 : URA M) (H : Heap 𝓤) (A : Atoms 𝓤) (W : Given 𝓤 H A) where
-  cut-rows : (s : Share) (t : Table) (b o : ℕ) → Cut 𝓤 H A s TB (Array R 256) 16 t t (t .rows) (t .rows) (b, o)
-  cut-rows s t b o = cut-records 𝓤 H A s TB T.the-type 256 16 t t (t .rows) (t .rows) (b, o) (look-at 𝓤 H A W s B.the-type B′.the-laws 2 16 refl refl (b, o) t (B.struct .as-values t) refl)
+  cut-rows : (s : Share) (t : Table) (b o : ℕ) → Cut 𝓤 H A s TB (Array R mostRows) 16 t t (t .rows) (t .rows) (b, o)
+  cut-rows s t b o = cut-records 𝓤 H A s TB T.the-type mostRows 16 t t (t .rows) (t .rows) (b, o) (look-at 𝓤 H A W s B.the-type B′.the-laws 2 16 refl refl (b, o) t (B.struct .as-values t) refl)
 
   module _ (ℓ : Lifetime) (κ : Lft) (q : Share) (b o : ℕ) (γ : GName) (t : Table) where
     abbrev rowsAt : GName → RefT (List Row)
     rowsAt δ = record { ptr = (b, o + 16); name = δ; now = t .rows }
 
     pub rows-of : ent 𝓤 (sep 𝓤 (sem 𝓤 H A (ShrRef ℓ κ TB .own (record { ptr = (b, o); name = γ; now = t }) (vptr b o ∷ []))) (A .lft κ q))
-        (H .⇛ (guard 𝓤 (length (t .rows) ≡ 256) (ex 𝓤 (λ (δ : GName). sep 𝓤 (sem 𝓤 H A (ShrSlice ℓ κ R .own (rowsAt δ) (sliceVal (b, o + 16) (length (t .rows)) ∷ []))) (A .lft κ q)))))
+        (H .⇛ (guard 𝓤 (length (t .rows) ≡ mostRows) (ex 𝓤 (λ (δ : GName). sep 𝓤 (sem 𝓤 H A (ShrSlice ℓ κ R .own (rowsAt δ) (sliceVal (b, o + 16) (length (t .rows)) ∷ []))) (A .lft κ q)))))
     rows-of =
         qed W (‵ (ShrRef ℓ κ TB .own (record { ptr = (b, o); name = γ; now = t }) (vptr b o ∷ [])) ∷ ‵ (flft κ q) ∷ []) ∵ updating ! $ fsplit ! $ drop ! $
-        use2 W (later (some (λ (δ : GName). ‵ (O.ShrRef erased κ (Array R 256) .own (rowsAt δ)) ⊛ ‵ (flft κ q))))
-        (shr-part 𝓤 H A W TB (Array R 256) (λ p. p + 16) (λ (z : Table). z .rows) (part-cut 𝓤 H A W TB (Array R 256) 16 (λ (z : Table). z .rows) cut-rows (halves 𝓤 H A W (cStruct B.the-type B′.the-laws B′.the-copy))) κ q t b o γ) $ await ! tt $ pick ! (λ δ. split ! $
-        use2 W (later (given (length (t .rows) ≡ 256) (some (λ (ε : GName). ‵ (O.ShrSlice erased κ R .own (rowsAt ε)) ⊛ ‵ (flft κ q)))))
-        (shr-arr-slice 𝓤 H A W R tt 256 (lit< tt, lit< tt) (halves 𝓤 H A W (cArr R (cStruct T.the-type T′.the-laws T′.the-copy) 256)) κ q (t .rows) b (o + 16) δ) $ await ! tt $ learn ! (λ len. pick ! (λ ε. split ! $
+        use2 W (later (some (λ (δ : GName). ‵ (O.ShrRef erased κ (Array R mostRows) .own (rowsAt δ)) ⊛ ‵ (flft κ q))))
+        (shr-part 𝓤 H A W TB (Array R mostRows) (λ p. p + 16) (λ (z : Table). z .rows) (part-cut 𝓤 H A W TB (Array R mostRows) 16 (λ (z : Table). z .rows) cut-rows (halves 𝓤 H A W (cStruct B.the-type B′.the-laws B′.the-copy))) κ q t b o γ) $ await ! tt $ pick ! (λ δ. split ! $
+        use2 W (later (given (length (t .rows) ≡ mostRows) (some (λ (ε : GName). ‵ (O.ShrSlice erased κ R .own (rowsAt ε)) ⊛ ‵ (flft κ q)))))
+        (shr-arr-slice 𝓤 H A W R tt mostRows (lit< tt, lit< tt) (halves 𝓤 H A W (cArr R (cStruct T.the-type T′.the-laws T′.the-copy) mostRows)) κ q (t .rows) b (o + 16) δ) $ await ! tt $ learn ! (λ len. pick ! (λ ε. split ! $
         fsplit ! $ feqI ! (List Val) (sliceVal (b, o + 16) (length (t .rows)) ∷ []) (sliceVal (b, o + 16) (length (t .rows)) ∷ []) refl $ fjoin ! $ fjoin ! $ at-once ! $ check ! len $
         show ! (λ (η : GName). sep 𝓤 (sem 𝓤 H A (ShrSlice ℓ κ R .own (rowsAt η) (sliceVal (b, o + 16) (length (t .rows)) ∷ []))) (A .lft κ q)) ε $ done !)))
 

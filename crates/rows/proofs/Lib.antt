@@ -1,3 +1,3 @@
 pub mod Column
-pub mod Apart
+pub mod Laid
 pub mod Lent

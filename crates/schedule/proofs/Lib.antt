@@ -24,3 +24,4 @@ pub mod RankPicks
 pub mod Renumbered
 pub mod Raised
 pub mod SameJobs
+pub mod Stands

@@ -4,13 +4,13 @@ use Prim.Native.Nat.{ℕ, _+_, _-_, _≤_, _<_, max}
 use native.Mathlib.Omega.{arith}
 use mathlib.Core.Bool.{Bool, true, false, cond}
 use mathlib.Core.Path.{_≡_, refl, sym, ap, _∙_}
-use lib.Dec.{T, leb, leb→le, le→leb}
+use lib.Dec.{T, leb, ltb, leb→le, le→leb, ltb→lt, lt→ltb}
 use lib.IntN.{ℤ, subℕ}
-use lib.Signed.{leZ}
+use lib.Signed.{leZ, ltZ}
 use borrow.Author.Tests.{leb-true, leb-false}
 use Rattle.schedule.specs.Desk.{maxZ}
 use Rattle.schedule.specs.Offset.{lowered}
-use Rattle.schedule.proofs.Signed.{leZ→, →leZ, level, sub-level}
+use Rattle.schedule.proofs.Signed.{leZ→, →leZ, ltZ→, →ltZ, level, sub-level}
 
 one-test : (s t : Bool) → (T s → T t) → (T t → T s) → s ≡ t
 one-test true true f g = refl
@@ -23,6 +23,12 @@ lowered-le a b =
     one-test (leZ (lowered a) (lowered b)) (leb a b)
     (λ t. le→leb a b (omega (arith, leZ→ (lowered a) (lowered b) t, sub-level a 2147483648, sub-level b 2147483648)))
     (λ t. →leZ (lowered a) (lowered b) (omega (arith, leb→le a b t, sub-level a 2147483648, sub-level b 2147483648)))
+
+pub lowered-lt : (a b : ℕ) → ltZ (lowered a) (lowered b) ≡ ltb a b
+lowered-lt a b =
+    one-test (ltZ (lowered a) (lowered b)) (ltb a b)
+    (λ t. lt→ltb a b (omega (arith, ltZ→ (lowered a) (lowered b) t, sub-level a 2147483648, sub-level b 2147483648)))
+    (λ t. →ltZ (lowered a) (lowered b) (omega (arith, ltb→lt a b t, sub-level a 2147483648, sub-level b 2147483648)))
 
 pub late-lowered : (end due : ℕ) → due ≤ 2147483648 → lowered (end + 2147483648 - due) ≡ subℕ end due
 late-lowered end due h = level (lowered (end + 2147483648 - due)) (subℕ end due) (omega (arith, sub-level (end + 2147483648 - due) 2147483648, sub-level end due))

@@ -1,6 +1,7 @@
 -- The limits of a book, and those of the search: by name, once.
 -- Rests on nothing.
 use Prim.Native.Nat.{ℕ, _+_, _*_, _≤_}
+use lib.IntN.{ℤ, negsuc}
 
 -- A book has at most so many rows. A column that a row number reads has one place more: row numbers count from 1, and place 0 is for no row.
 abbrev pub mostRows : ℕ
@@ -18,6 +19,13 @@ longestLength = 30000
 
 abbrev pub latestDue : ℕ
 latestDue = 20000000
+
+-- So an order of a book's rows ends by the latest end, is late by no more than that, and by no less than the least lateness, -19,999,999.
+abbrev pub latestBookEnd : ℕ
+latestBookEnd = 17680000
+
+abbrev pub leastLateness : ℤ
+leastLateness = negsuc 19999998
 
 -- The longest time a row can take at the desk, and the latest minute at which planning can end: a desk that stands at 20,000,000 takes the most rows of
 -- the longest time.

@@ -1,7 +1,7 @@
 -- Rows of a table and their numbers. A row is named by its number in the table, from 1; an order is a list of such numbers.
 -- Rests on: the jobs of the theory.
 use Prim.Native.Nat.{ℕ, zero, suc}
-use mathlib.Core.Bool.{cond}
+use mathlib.Core.Bool.{Bool, false, cond, _||_}
 use mathlib.Core.List.{List, [], _∷_}
 use lib.Dec.{eqb}
 use lib.ListN.{length, getD}
@@ -44,6 +44,11 @@ allRows rows = countFrom 1 (length rows)
 abbrev pub rowNumbers : Day → List ℕ
 rowNumbers day = allRows (day .rows)
 
+-- A number stands in a list.
+unfoldable pub stands : ℕ → List ℕ → Bool
+stands n [] = false
+stands n (m ∷ ms) = eqb n m || stands n ms
+
 -- A list without the first place where i stands; and without each of the first list.
 unfoldable pub without : ℕ → List ℕ → List ℕ
 without i [] = []
@@ -55,5 +60,5 @@ withoutAll (i ∷ is) left = withoutAll is (without i left)
 
 -- Opens every definition of this file: name it on an `unfolding` line where all is to be computed.
 unfoldable pub openRows : Unit {0}
-unfolding countFrom without withoutAll
+unfolding countFrom stands without withoutAll
 openRows = tt

@@ -7,6 +7,7 @@ use native.Mathlib.Omega.{arith}
 use native.Mathlib.Decide.{ℕ-discrete}
 use lib.ListN.{length, take, getD, set, replicate, length-set, length-map}
 use lib.Seq.{getD-set-same, getD-set-other, ext-getD}
+use Rattle.schedule.specs.Limits.{mostRows, rowPlaces}
 use Rattle.schedule.specs.declared.Row.{Row}
 use Rattle.schedule.specs.Rows.{noRow}
 use Rattle.rows.proofs.Column.{Column, column-none, column-more}
@@ -18,10 +19,10 @@ number r = r .number
 abbrev pub Numbers : List ℕ → List Row → Type 0
 Numbers = Column number
 
-pub no-numbers : Numbers (replicate 257 0) []
+pub no-numbers : Numbers (replicate rowPlaces 0) []
 no-numbers = column-none number refl
 
-pub more-numbers : (numbers : List ℕ) (rows : List Row) (n : ℕ) (r : Row) → n < 256 → r ≡ getD rows n noRow → Numbers numbers (take n rows) →
+pub more-numbers : (numbers : List ℕ) (rows : List Row) (n : ℕ) (r : Row) → n < mostRows → r ≡ getD rows n noRow → Numbers numbers (take n rows) →
     Numbers (set numbers (n + 1) (r .number)) (take (n + 1) rows)
 more-numbers = column-more number
 

@@ -20,18 +20,21 @@ use Rattle.schedule.specs.Desk.{Pair}
 use Rattle.schedule.specs.Offset.{lowered}
 use Rattle.schedule.proofs.Signed.{sub-cases}
 use Rattle.book.specs.declared.Table.{Table}
+use Rattle.schedule.specs.declared.Profile.the-variants.{Ordering}
+use Rattle.schedule.specs.Rows.{Day}
 use Rattle.book.specs.Book.{tableRows}
-use Rattle.planner.specs.Calls.{nth, plansOf, orderOf}
-use Rattle.planner.specs.Lines.{Line, numbersOf, lineOf, printed}
-use Rattle.planner.specs.Promise.{signed, plansIn}
+use Rattle.results.specs.Results.{written, signed, plansIn}
+use Rattle.calls.specs.declared.OrderAnswer.{OrderAnswer}
+use Rattle.calls.specs.Calls.{Outcome, nth, planningOf, boundCall}
+use Rattle.calls.specs.Lines.{Line, numbersOf, lineOf, printed}
+use Rattle.calls.proofs.CallLaws.{bound-of, order-some}
+use Rattle.planner.specs.Promise.{orderingRule}
+use Rattle.planner.proofs.Promise.{calls-keep-promise}
 use Rattle.slate.specs.Printing.{prints, lineAt}
+use Rattle.schedule.specs.Profiles.{plansBy}
 use Rattle.schedule.proofs.Numbers.{length-count}
 use Rattle.schedule.proofs.Orders.{perm-count}
-use Rattle.planner.specs.declared.Ordered.{Ordered}
-use Rattle.planner.specs.Calls.{Outcome, written, orderingRule, boundCall}
-use Rattle.planner.proofs.CallLaws.{bound-is, order-some}
-use Rattle.planner.proofs.Promise.{calls-keep-promise}
-use Rattle.slate.specs.Parts.{Shown, Heard}
+use Rattle.slate.specs.Parts.{dayIn, plansOf, Shown, Heard}
 use Rattle.slate.proofs.Naming.{Numbers}
 
 -- The number that a word in two's complement stands for.
@@ -89,20 +92,22 @@ written-whole order b e = rw (e, drop-length b) (append-nil order)
 
 module _ (input book : List ℕ) (t : Table) (count : ℕ) (plans : List ℕ) (h : Heard input book t count plans) (k : ℕ) (l : k < count) where
   -- The plan stands in the list.
-  plan-at : nth (plansOf (tableRows t) (t .free)) (suc k) ≡ some (pairIn plans k)
+  plan-at : nth (plansOf t) (suc k) ≡ some (pairIn plans k)
   plan-at = ap (λ (ps : List Pair). nth ps (suc k)) (sym (h .listed)) ∙ plan-in count k plans l (omega (arith, h .size, h .fits))
 
-  there : (order : List ℕ) × (orderOf (tableRows t) (t .free) (pairIn plans k .late) ≡ some order) × (length order ≡ t .count)
+  there : (order : List ℕ) × (planningOf Ordering (dayIn t) .orders (pairIn plans k .late) ≡ some order) × (length order ≡ t .count)
+  unfolding plansBy
   there =
-      let promise = calls-keep-promise book (t .free) (tableRows t) (h .read) in
-      let wide : 2 * length (tableRows t) ≤ length plans = omega (arith, h .size, h .few, h .rows) in
-      let got = promise .plan-order plans plans wide (omega (arith, h .size, h .few, h .rows)) (suc k) (pairIn plans k)
+      let promise = calls-keep-promise book (dayIn t) (h .read) .lists in
+      let n = length-count 1 (length (tableRows t)) in
+      let wide : 2 * length (planningOf Ordering (dayIn t) .left) ≤ length plans = omega (arith, n, h .size, h .few, h .rows) in
+      let got = promise .plan-order plans plans wide (omega (arith, n, h .size, h .few, h .rows)) (suc k) (pairIn plans k)
       (ap (λ (ps : List Pair). nth ps (suc k)) (promise .listed plans wide .1) ∙ plan-at) in
       (got .0, got .1, perm-count (got .2 .0) .0 ∙ (length-count 1 (length (tableRows t)) ∙ h .rows))
 
-  line-at : lineAt (prints input) (suc k) ≡ some (lineOf (tableRows t) (t .free) (pairIn plans k))
+  line-at : lineAt (prints input) (suc k) ≡ some (lineOf orderingRule (dayIn t) (pairIn plans k))
   unfolding printed
-  line-at = rw (h .whole, printed, h .read) (nth-map (lineOf (tableRows t) (t .free)) (plansOf (tableRows t) (t .free)) (suc k) (pairIn plans k) plan-at)
+  line-at = rw (h .whole, printed, h .read) (nth-map (lineOf orderingRule (dayIn t)) (plansOf t) (suc k) (pairIn plans k) plan-at)
 
   -- The line of plan k + 1, from the order that the call for its bound writes, with the order numbers in the places of the rows.
   pub line-stands : (numbers : List ℕ) → Numbers numbers (tableRows t) →
@@ -112,8 +117,9 @@ module _ (input book : List ℕ) (t : Table) (count : ℕ) (plans : List ℕ) (h
       let o = there in
       let y = pairIn plans k .late in
       let held : boundCall orderingRule book y b .buffer ≡ o .0 =
-      ap (λ (x : Outcome Ordered). x .buffer)
-      (bound-is orderingRule book (t .free) (tableRows t) (h .read) y b ∙ order-some orderingRule (tableRows t) (t .free) y b (omega (arith, f, h .rows)) (o .0) (o .1)) ∙
+      ap (λ (x : Outcome OrderAnswer). x .buffer)
+      (bound-of orderingRule book (dayIn t) (h .read) y b ∙
+      order-some (planningOf Ordering (dayIn t)) y b (omega (arith, f, h .rows, length-count 1 (length (tableRows t)))) (o .0) (o .1)) ∙
       written-whole (o .0) b (o .2 ∙ sym f) in
       let named : map (λ i. row (tableRows t) i .number) (o .0) ≡ map (λ i. getD numbers i 0) (boundCall orderingRule book y b .buffer) =
       sym (ap (map (λ i. getD numbers i 0)) held ∙ ap (λ (g : ℕ → ℕ). map g (o .0)) (λ j i. n .1 i j)) in

@@ -5,12 +5,18 @@ use mathlib.Core.Path.{_≡_}
 use mathlib.Core.List.{List, _++_, map}
 use mathlib.Core.Option.{some}
 use lib.ListN.{length, take, getD}
+use Rattle.schedule.specs.Limits.{mostRows}
 use Rattle.book.specs.declared.Table.{Table}
+use Rattle.schedule.specs.declared.Profile.the-variants.{Ordering}
+use Rattle.schedule.specs.Desk.{Pair}
+use Rattle.schedule.specs.Rows.{Day}
 use Rattle.book.specs.Rows.{accepted}
-use Rattle.book.specs.Book.{readBook, tableRows}
-use Rattle.planner.specs.Calls.{plansOf, orderingRule, boundCall}
-use Rattle.planner.specs.Lines.{printed}
-use Rattle.planner.specs.Promise.{signed, plansIn}
+use Rattle.book.specs.Book.{tableRows}
+use Rattle.readers.specs.Reads.{readBy}
+use Rattle.results.specs.Results.{signed, plansIn}
+use Rattle.calls.specs.Calls.{planningOf, boundCall}
+use Rattle.calls.specs.Lines.{printed}
+use Rattle.planner.specs.Promise.{orderingRule}
 use Rattle.slate.specs.Printing.{prints, lineAt}
 
 -- The first n places of a buffer hold a list of n numbers.
@@ -37,13 +43,20 @@ abbrev pub Shown : (input book numbers : List ℕ) (rows plan end late : ℕ) �
 Shown input book numbers rows plan end late = (b : List ℕ) → length b ≡ rows → lineAt (prints input) plan ≡
     some (record { end = end; late = signed late; numbers = map (λ i. getD numbers i 0) (boundCall orderingRule book (signed late) b .buffer) })
 
+-- The day that a table holds, and its plans.
+abbrev pub dayIn : Table → Day
+dayIn t = record { free = t .free; rows = tableRows t }
+
+abbrev pub plansOf : Table → List Pair
+plansOf t = planningOf Ordering (dayIn t) .plans
+
 -- The input is a book that is accepted, the table has its rows, and the buffer its plans.
 pub record Heard (input book : List ℕ) (table : Table) (count : ℕ) (plans : List ℕ) : Type 0 where
-  pub whole : prints input ≡ printed book
-  pub read : readBook book ≡ accepted (table .free) (tableRows table)
-  pub few : table .count ≤ 256
-  pub fits : count ≤ 256
+  pub whole : prints input ≡ printed orderingRule book
+  pub read : readBy orderingRule book ≡ accepted (dayIn table)
+  pub few : table .count ≤ mostRows
+  pub fits : count ≤ mostRows
   pub rows : length (tableRows table) ≡ table .count
   pub size : length plans ≡ 512
-  pub counted : length (plansOf (tableRows table) (table .free)) ≡ count
-  pub listed : plansIn count plans ≡ plansOf (tableRows table) (table .free)
+  pub counted : length (plansOf table) ≡ count
+  pub listed : plansIn count plans ≡ plansOf table

@@ -1,5 +1,5 @@
 -- What is printed of an input, line by line.
--- Rests on: Input, the planner's Lines.
+-- Rests on: Input, the calls' Lines.
 use Prim.Native.Nat.{ℕ, _/_, _%_}
 use mathlib.Core.Bool.{Bool, cond, not, _&&_}
 use mathlib.Core.Path.{_≡_}
@@ -7,9 +7,10 @@ use mathlib.Core.List.{List}
 use mathlib.Core.Option.{Option, none}
 use lib.Dec.{ltb, eqb}
 use lib.ListN.{length}
-use Rattle.book.specs.Refusals.{byCut}
-use Rattle.planner.specs.Calls.{nth}
-use Rattle.planner.specs.Lines.{Line, Printed, refusal, listing, printed}
+use Rattle.refusals.specs.Refusals.{byCut}
+use Rattle.calls.specs.Calls.{nth}
+use Rattle.calls.specs.Lines.{Line, Printed, refusal, listing, printed}
+use Rattle.planner.specs.Promise.{orderingRule}
 use Rattle.slate.specs.Input.{wordsIn}
 
 -- The input ends before 1,028 words are in, with 1 to 3 odd bytes.
@@ -18,7 +19,7 @@ odd input = ltb (length input) 4112 && not (eqb (length input % 4) 0)
 
 -- Such an input is cut at its count of whole words, before any other test. Of any other the first 1,028 words are the book.
 unfoldable pub prints : List ℕ → Printed
-prints input = cond (odd input) (refusal byCut (length input / 4)) (printed (wordsIn 1028 input))
+prints input = cond (odd input) (refusal byCut (length input / 4)) (printed orderingRule (wordsIn 1028 input))
 
 -- The first line counts rows and plans.
 abbrev pub Opens : Printed → ℕ → ℕ → Type 0

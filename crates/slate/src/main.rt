@@ -6,19 +6,21 @@ ghost use mathlib.Core.List.{map};
 ghost use mathlib.Core.Option.{some};
 ghost use Prim.Native.Nat.{ℕ, _+_, _*_, _≤_, _<_};
 ghost use lib.ListN.{length, getD};
+ghost use Rattle.schedule.specs.Limits.{mostRows, rowPlaces};
 ghost use Rattle.schedule.specs.Rows.{row};
 ghost use Rattle.book.specs.Book.{tableRows};
-ghost use Rattle.planner.specs.Calls.{orderingRule, boundCall};
-ghost use Rattle.planner.specs.Lines.{refusal};
-ghost use Rattle.planner.specs.Promise.{signed};
+ghost use Rattle.results.specs.Results.{signed};
+ghost use Rattle.calls.specs.Calls.{boundCall};
+ghost use Rattle.calls.specs.Lines.{refusal};
+ghost use Rattle.planner.specs.Promise.{orderingRule};
 ghost use Rattle.slate.specs.Input.{wordAt, wordsIn};
 ghost use Rattle.slate.specs.Printing.{odd, prints, Opens, lineAt};
 ghost use Rattle.slate.specs.Parts.{Counted, Lined, Added, Shown, Heard};
 use book::Table;
-use book::Tested;
+use calls::ListAnswer;
 use libc::STDIN_FILENO;
 use libc::STDOUT_FILENO;
-use planner::Listed;
+use refusals::Tested;
 use schedule::Desk;
 
 // The bytes and the words that are looked at, and the most bytes of a line.
@@ -73,12 +75,12 @@ fn signed_of(word: u32) -> i32
 }
 
 // The order number of each row, at the row's place from 1.
-fn numbers_of(table: Table) -> [u32; 257]
-    requires { ⌜ table .count ≤ 256 ⌝ }
-    ensures { λ r. ⌜ (length r ≡ 257) × ((i : ℕ) → getD r i 0 ≡ row (tableRows table) i .number) ⌝ }
+fn numbers_of(table: Table) -> [u32; Desk::PLACES]
+    requires { ⌜ table .count ≤ mostRows ⌝ }
+    ensures { λ r. ⌜ (length r ≡ rowPlaces) × ((i : ℕ) → getD r i 0 ≡ row (tableRows table) i .number) ⌝ }
 {
     let count = table.count;
-    let mut numbers = [0u32; 257];
+    let mut numbers = [0u32; Desk::PLACES];
     let mut i: usize = 0;
     while i < count {
         let row = table.rows[i];
@@ -89,17 +91,17 @@ fn numbers_of(table: Table) -> [u32; 257]
 }
 
 // The order number of a row, and 0 for a number that no row has.
-fn number_at(numbers: &[u32; 257], row: u32) -> u32
-    requires { ⌜ length (now numbers) ≡ 257 ⌝ }
+fn number_at(numbers: &[u32; Desk::PLACES], row: u32) -> u32
+    requires { ⌜ length (now numbers) ≡ rowPlaces ⌝ }
     ensures { λ r. ⌜ r ≡ getD (now (numbers .entry)) row 0 ⌝ }
 {
     let i = row as usize;
-    if i < 257 { numbers[i] } else { 0 }
+    if i < Desk::PLACES { numbers[i] } else { 0 }
 }
 
 // The order numbers of an order of rows, in its place.
-fn name_rows(numbers: &[u32; 257], order: &mut [u32])
-    requires { ⌜ length (now numbers) ≡ 257 ⌝ }
+fn name_rows(numbers: &[u32; Desk::PLACES], order: &mut [u32])
+    requires { ⌜ length (now numbers) ≡ rowPlaces ⌝ }
     ensures { λ _. ⌜ now (order .exit) ≡ map (λ i. getD (now (numbers .entry)) i 0) (now (order .entry)) ⌝ }
 {
     let mut k: usize = 0;
@@ -147,7 +149,7 @@ fn put_signed(line: &mut [u8; LINE], at: usize, word: u32) -> usize
 
 // A space and a number added to a line, for each number of an order.
 fn put_order(line: &mut [u8; LINE], at: usize, numbers: &[u32]) -> usize
-    requires { ⌜ (length (now line) ≡ 6000) × (at ≤ 200) × (length (now numbers) ≤ 256) ⌝ }
+    requires { ⌜ (length (now line) ≡ 6000) × (at ≤ 200) × (length (now numbers) ≤ mostRows) ⌝ }
     ensures { λ r. ⌜ Lined r 5800 (now (line .exit)) ⌝ }
 {
     let mut end = at;
@@ -186,7 +188,7 @@ fn print_rows(input: &[u8], rows: usize, plans: usize)
 
 fn print_plan(input: &[u8], plan: usize, end: u32, late: u32, numbers: &[u32])
     requires { ⌜ lineAt (prints (now input)) plan ≡ some (record { end = end; late = signed late; numbers = now numbers }) ⌝ }
-    requires { ⌜ length (now numbers) ≤ 256 ⌝ }
+    requires { ⌜ length (now numbers) ≤ mostRows ⌝ }
 {
     let mut line = [0u8; LINE];
     let mut at = put(&mut line, 0, b"plan ");
@@ -202,8 +204,8 @@ fn print_plan(input: &[u8], plan: usize, end: u32, late: u32, numbers: &[u32])
 }
 
 // The order numbers of the order for a bound, in two's complement, one for each row.
-fn order_numbers(book: &[u32], late: u32, numbers: &[u32; 257], order: &mut [u32])
-    requires { ⌜ length (now numbers) ≡ 257 ⌝ }
+fn order_numbers(book: &[u32], late: u32, numbers: &[u32; Desk::PLACES], order: &mut [u32])
+    requires { ⌜ length (now numbers) ≡ rowPlaces ⌝ }
     ensures { λ _. ⌜ length (now (order .exit)) ≡ length (now (order .entry)) ⌝ }
     ensures { λ _. ⌜ now (order .exit) ≡ map (λ i. getD (now (numbers .entry)) i 0) (boundCall orderingRule (now (book .entry)) (signed late) (now (order .entry)) .buffer) ⌝ }
 {
@@ -213,7 +215,7 @@ fn order_numbers(book: &[u32], late: u32, numbers: &[u32; 257], order: &mut [u32
 
 // Room for an order.
 fn no_order() -> [u32; Desk::ROWS]
-    ensures { λ r. ⌜ 256 ≡ length r ⌝ }
+    ensures { λ r. ⌜ mostRows ≡ length r ⌝ }
 {
     [0; Desk::ROWS]
 }
@@ -229,13 +231,13 @@ fn no_plans() -> [u32; 512]
 fn print_line(
     input: &[u8],
     book: &[u32],
-    numbers: &[u32; 257],
+    numbers: &[u32; Desk::PLACES],
     rows: usize,
     plan: usize,
     end: u32,
     late: u32,
 )
-    requires { ⌜ (length (now numbers) ≡ 257) × (rows ≤ 256) ⌝ }
+    requires { ⌜ (length (now numbers) ≡ rowPlaces) × (rows ≤ mostRows) ⌝ }
     requires { ⌜ Shown (now input) (now book) (now numbers) rows plan end late ⌝ }
 {
     let mut order = no_order();
@@ -278,11 +280,11 @@ fn print_book(input: &[u8], book: &[u32])
     }
     let mut plans = no_plans();
     match planner::list(book, &mut plans) {
-        Listed::Refused(number, place) => {
+        ListAnswer::Refused(number, place) => {
             print_refused(input, number, place);
         },
-        Listed::Plans(count) => {
-            let table = book::read(book).table;
+        ListAnswer::Plans(count) => {
+            let table = book::read_words(book).table;
             print_rows(input, table.count, count);
             print_plans(input, book, table, count, &plans);
         },

@@ -29,7 +29,13 @@ then-requires c κs = search needs
 
 returns : tie.Need-returns
 unfolding endTests
-returns c = rw (c .then .ensures, c .before .refuse-if2 .ensures, c .before .before .refuse-if .ensures, c .before .before .before .value-of .ensures, c .before .before .before .before .word-at .ensures) refl
+returns c = rw (
+  c .then .ensures,
+  c .before .refuse-if2 .ensures,
+  c .before .before .refuse-if .ensures,
+  c .before .before .before .value-of .ensures,
+  c .before .before .before .before .word-at .ensures,
+) refl
 
 pub end-tests-spec : {M : Type 1} → statement M
 end-tests-spec =

@@ -9,11 +9,13 @@ use mathlib.Core.List.{List}
 use lib.ListN.{length, take, drop, length-drop}
 use lib.Seq.{drop-drop}
 use borrow.Author.Needs.{needs}
-use Rattle.book.specs.declared.Tested.{Tested}
-use Rattle.book.specs.declared.Tested.the-variants.{Passed}
-use Rattle.book.specs.Rows.{rowTests, rowOf, rowReadOf, endStands, endTests}
-use Rattle.book.specs.Book.{tableOf, settledOf}
-use Rattle.book.proofs.Tests.{row-fits}
+use Rattle.schedule.specs.Limits.{mostRows}
+use Rattle.refusals.specs.declared.Tested.{Tested}
+use Rattle.refusals.specs.declared.Tested.the-variants.{Passed}
+use Rattle.row_reader.specs.RowWords.{rowTests, rowOf, rowReadOf}
+use Rattle.book.specs.Rows.{endStands, endTests}
+use Rattle.book.specs.Book.{tableOf, unlessRefused}
+use Rattle.row_reader.proofs.Tests.{row-fits}
 use Rattle.book.proofs.Tables.{part-end}
 use Rattle.book.proofs.Reached.{Reached, reached-start, reached-end, reached-refused, reached-room, reached-on, whole-tests, whole-row, refused-tests}
 use Rattle.book.proofs.read_rows.Statement.{statement}
@@ -44,23 +46,26 @@ row-is : (c : tie.After-read-row Inv-loop μ-loop) →
 row-is c =
     let s = c .before .before .before .before .before .before .before .before .args in
     let l = c .before .before .before .before .before .loop in
-    c .read-row .ensures ∙ ap (λ (ws : List ℕ). rowReadOf (rowTests (take (l .count) (l .numbers)) (l .at) ws) (rowOf (s .pace) ws)) (part-end (l .at) (now (s .book)))
+    c .read-row .ensures ∙ ap (λ (ws : List ℕ). rowReadOf (rowTests (take (l .count) (l .numbers)) (l .at) ws) (rowOf (s .pace) ws))
+    (part-end (l .at) (now (s .book)))
 
 -- A whole row passed its tests, and has four words.
 passed : (c : tie.After-row Inv-loop μ-loop) →
     let l = c .before .before .before .before .before .before .before .loop in
-    rowTests (take (l .count) (l .numbers)) (l .at) (drop (l .at) (now (c .before .before .before .before .before .before .before .before .before .before .args .book))) ≡ Passed
+    rowTests (take (l .count) (l .numbers)) (l .at)
+    (drop (l .at) (now (c .before .before .before .before .before .before .before .before .before .before .args .book))) ≡ Passed
 passed c = whole-tests _ _ _ (sym (c .row .given .1) ∙ row-is (c .before .before))
 
 long : (c : tie.After-row Inv-loop μ-loop) →
-    c .before .before .before .before .before .before .before .loop .at + 4 ≤ length (now (c .before .before .before .before .before .before .before .before .before .before .args .book))
+    c .before .before .before .before .before .before .before .loop .at + 4 ≤ length
+    (now (c .before .before .before .before .before .before .before .before .before .before .args .book))
 long c =
     let l = c .before .before .before .before .before .before .before .loop in
     let b = now (c .before .before .before .before .before .before .before .before .before .before .args .book) in
     omega (arith, row-fits (take (l .count) (l .numbers)) (l .at) (drop (l .at) b) (passed c) .due .there, length-drop (l .at) b)
 
 -- There is room for it.
-room : (c : tie.After-row Inv-loop μ-loop) → c .before .before .before .before .before .before .before .loop .count < 256
+room : (c : tie.After-row Inv-loop μ-loop) → c .before .before .before .before .before .before .before .loop .count < mostRows
 room c = reached-room (c .before .before .before .before .before .before .before .loop .inv .1) (passed c)
 
 no-row-requires : tie.Need-no-row-requires Inv-loop μ-loop
@@ -90,8 +95,8 @@ end-stands-requires c κs = search needs
 end-tests-requires : tie.Need-end-tests-requires Inv-loop μ-loop
 end-tests-requires c κs = search needs
 
-settled-requires : tie.Need-settled-requires Inv-loop μ-loop
-settled-requires c κs = search needs
+unless-refused-requires : tie.Need-unless-refused-requires Inv-loop μ-loop
+unless-refused-requires c κs = search needs
 
 returns : tie.Need-returns Inv-loop μ-loop
 returns c =
@@ -99,9 +104,12 @@ returns c =
     let s = c .before .before .before .before .before .before .before .before .args in
     let b = now (s .book) in
     let e : endStands (l .count) (drop (l .at) b) ≡ true =
-    ap (endStands (l .count)) (sym (part-end (l .at) b)) ∙ sym (c .before .before .before .end-stands .ensures) ∙ c .before .before .if1 .taken in
-    let o : c .before .end-tests .result ≡ endTests (l .count) (l .at) (drop (l .at) b) = c .before .end-tests .ensures ∙ ap (endTests (l .count) (l .at)) (part-end (l .at) b) in
-    c .settled .ensures ∙ ap (λ (z : Tested). settledOf z (record { free = s .free; count = l .count; rows = l .rows })) o ∙ reached-end (l .inv .1) e
+    ap (endStands (l .count)) (sym (part-end (l .at) b)) ∙ sym (c .before .before .before .end-stands .ensures)
+    ∙ c .before .before .if1 .taken in
+    let o : c .before .end-tests .result ≡ endTests (l .count) (l .at) (drop (l .at) b) =
+    c .before .end-tests .ensures ∙ ap (endTests (l .count) (l .at)) (part-end (l .at) b) in
+    c .unless-refused .ensures ∙ ap (λ (z : Tested). unlessRefused z (record { free = s .free; count = l .count; rows = l .rows })) o
+    ∙ reached-end (l .inv .1) e
 
 read-row-requires : tie.Need-read-row-requires Inv-loop μ-loop
 read-row-requires c κs = search needs
@@ -131,7 +139,8 @@ returns-2 : tie.Need-returns-2 Inv-loop μ-loop
 returns-2 c =
     let g = c .before .before .n .given in
     let r = c .before .before .before .before in
-    c .refused .ensures ∙ reached-refused (r .before .before .before .before .before .loop .inv .1) (g .0 .0) (g .0 .1 .0) (stop (r .before .before)) (refused-tests _ _ _ _ (sym (g .1) ∙ row-is r))
+    c .refused .ensures ∙ reached-refused (r .before .before .before .before .before .loop .inv .1) (g .0 .0) (g .0 .1 .0)
+    (stop (r .before .before)) (refused-tests _ _ _ _ (sym (g .1) ∙ row-is r))
 
 add-count : tie.Need-add-count Inv-loop μ-loop
 add-count c = omega (arith, room (c .before))
@@ -146,8 +155,11 @@ loop-again : tie.Need-loop-again Inv-loop μ-loop
 loop-again c =
     let r = c .before in
     let l = r .before .before .before .before .before .before .before .loop in
-    let b = now (r .before .before .before .before .before .before .before .before .before .before .args .book) in
-    (long r, rw (whole-row _ _ _ (sym (r .row .given .1) ∙ row-is (r .before .before)), ← drop-drop 4 (l .at) b) (reached-on (l .inv .1) (stop (r .before .before .before .before)) (passed r)))
+    let b = now (r .before .before .before .before .before .before .before .before .before .before .args .book) in (
+      long r,
+      rw (whole-row _ _ _ (sym (r .row .given .1) ∙ row-is (r .before .before)), ← drop-drop 4 (l .at) b)
+          (reached-on (l .inv .1) (stop (r .before .before .before .before)) (passed r)),
+    )
 
 pub read-rows-spec : {M : Type 1} → statement M
 read-rows-spec =
@@ -163,7 +175,7 @@ read-rows-spec =
     part-rest-end
     end-stands-requires
     end-tests-requires
-    settled-requires
+    unless-refused-requires
     returns
     read-row-requires
     enum-known-row

@@ -1,7 +1,7 @@
 -- `jelvaksna_first_come_list` meets its contract: the call's, through the answer's fields.
 -- Assumes nothing.
 use borrow.Author.Needs.{needs}
-use Rattle.planner.specs.Answers.{saidList}
+use Rattle.calls.specs.Answers.{saidList}
 use Rattle.jelvaksna.proofs.Through.{through}
 use Rattle.jelvaksna.proofs.jelvaksna_first_come_list.Statement.{statement}
 use Rattle.jelvaksna.proofs.jelvaksna_first_come_list.Tie as tie

@@ -6,9 +6,9 @@ use mir.Syntax.{w32}
 use mir.ValLaws.{toZ-ofZ}
 use mathlib.Core.Path.{ap, _∙_}
 use borrow.Author.Needs.{needs}
-use Rattle.planner.specs.Calls.{boundCall}
-use Rattle.planner.specs.Answers.{saidOrder}
-use Rattle.first_come.specs.FirstCome.{firstCome}
+use Rattle.calls.specs.Calls.{boundCall}
+use Rattle.calls.specs.Answers.{saidOrder}
+use Rattle.first_come.specs.Promise.{firstCome}
 use Rattle.jelvaksna.proofs.Through.{through}
 use Rattle.jelvaksna.proofs.jelvaksna_first_come_order_for_bound.Statement.{statement}
 use Rattle.jelvaksna.proofs.jelvaksna_first_come_order_for_bound.Tie as tie

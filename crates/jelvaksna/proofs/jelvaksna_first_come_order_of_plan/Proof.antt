@@ -1,7 +1,7 @@
 -- `jelvaksna_first_come_order_of_plan` meets its contract: the call's, through the answer's fields.
 -- Assumes nothing.
 use borrow.Author.Needs.{needs}
-use Rattle.planner.specs.Answers.{saidOrder}
+use Rattle.calls.specs.Answers.{saidOrder}
 use Rattle.jelvaksna.proofs.Through.{through}
 use Rattle.jelvaksna.proofs.jelvaksna_first_come_order_of_plan.Statement.{statement}
 use Rattle.jelvaksna.proofs.jelvaksna_first_come_order_of_plan.Tie as tie

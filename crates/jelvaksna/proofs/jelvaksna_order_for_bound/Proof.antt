@@ -6,8 +6,9 @@ use mir.Syntax.{w32}
 use mir.ValLaws.{toZ-ofZ}
 use mathlib.Core.Path.{ap, _∙_}
 use borrow.Author.Needs.{needs}
-use Rattle.planner.specs.Calls.{orderingRule, boundCall}
-use Rattle.planner.specs.Answers.{saidOrder}
+use Rattle.calls.specs.Calls.{boundCall}
+use Rattle.planner.specs.Promise.{orderingRule}
+use Rattle.calls.specs.Answers.{saidOrder}
 use Rattle.jelvaksna.proofs.Through.{through}
 use Rattle.jelvaksna.proofs.jelvaksna_order_for_bound.Statement.{statement}
 use Rattle.jelvaksna.proofs.jelvaksna_order_for_bound.Tie as tie

@@ -34,6 +34,7 @@ use denote.Triple.Spec.{Meets, tripleOf}
 use denote.Triple.Table.{entered}
 use denote.Triple.Walked.{says, needs, Stays, stay-none-ref, walkOf, goes-none-ref, Walks, ends-at, walked, walk-meets}
 use denote.Exit.{yes}
+use Rattle.schedule.specs.Limits.{mostRows}
 use Rattle.schedule.specs.declared.Row.{Row}
 use Rattle.book.specs.declared.Table.{Table}
 use Rattle.book.proofs.Tables.{rows-length}
@@ -48,7 +49,7 @@ use Rattle.rows.proofs.accepted_rows.Code as code
 abbrev stayed : Stays (f.ended .signature .params) (f.ended .kept)
 stayed = (stay-none-ref (0 ∷ []) tt (plain (λ _. TB)) yes, tt)
 
-module _ {M : Type 1} (𝓤 : URA M) (H : Heap 𝓤) (A : Atoms 𝓤) (W : Given 𝓤 H A) (mem : Memory → SProp 𝓤) (run : Routine → Fun 𝓤) (κ : Lft) (q : Share) (b o : ℕ) (γ : GName) (t : Table) (l : t .count ≤ 256) where
+module _ {M : Type 1} (𝓤 : URA M) (H : Heap 𝓤) (A : Atoms 𝓤) (W : Given 𝓤 H A) (mem : Memory → SProp 𝓤) (run : Routine → Fun 𝓤) (κ : Lft) (q : Share) (b o : ℕ) (γ : GName) (t : Table) (l : t .count ≤ mostRows) where
   abbrev s : RefT Table
   s = record { ptr = (b, o); name = γ; now = t }
 
@@ -98,7 +99,7 @@ module _ {M : Type 1} (𝓤 : URA M) (H : Heap 𝓤) (A : Atoms 𝓤) (W : Given
         assigns ! (addr ! (from ! (hop ! (look ! 11 refl) (fld ! refl (stop !))))) (from ! (stop !)) (init ! 7 refl (tt, tt)) $
         assigns ! (agg ! (and-then ! (load ! (from ! (stop !)) (look ! 7 refl)) (and-then ! (load ! (from ! (stop !)) (look ! 9 refl)) (no-more !)))) (from ! (stop !)) (init ! 13 refl (tt, (tt, (LL.lawful B.the-type B′.the-laws 𝓤 H A W .typed t _ g .0 .1 .1 .0, tt)))) $
         -- [the token; the fractured borrow; true; res; what t owns; again; true; …]: the rows, and the first of them
-        move ! (4 ∷ 0 ∷ []) $ use2 W (later (given (length (t .rows) ≡ 256) (some (λ (δ : GName). ‵ (Lent δ (t .rows)) ⊛ ‵ (flft κ q))))) (rows-of 𝓤 H A W (named 0) κ q b o γ t) $ await ! tt $ learn ! (λ len. pick ! (λ δ. split ! $
+        move ! (4 ∷ 0 ∷ []) $ use2 W (later (given (length (t .rows) ≡ mostRows) (some (λ (δ : GName). ‵ (Lent δ (t .rows)) ⊛ ‵ (flft κ q))))) (rows-of 𝓤 H A W (named 0) κ q b o γ t) $ await ! tt $ learn ! (λ len. pick ! (λ δ. split ! $
         use2 W (later (some (λ (ε : GName). ‵ (Lent ε ps) ⊛ ‵ (flft κ q)))) (prefix-of 𝓤 H A W (named 0) κ q b (o + 16) δ (t .rows) (t .count)) $ await ! tt $ pick ! (λ ε. split ! $
         rewrite ! 13 (λ (m : ℕ). ‵ (fat fullShare (sliceTy (tyRef (named 0) imm (pointee (R .written)))) l₀ 0 (sliceVal (b, o + 16) m))) (sym (rows-length t l len)) refl $
         -- [the part; the token; the fractured borrow; true; res; what t owns; true; _3; …; _2; …; _1; …; _0; …]

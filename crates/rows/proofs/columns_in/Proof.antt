@@ -40,7 +40,8 @@ use denote.Exit.{yes}
 use denote.Triple.Clauses.{ensured, lasts}
 use borrow.Table.OneValue.{part-in}
 use borrow.Rule.Array.Init.{part-room}
-use Rattle.rows.specs.Apart.{Apart}
+use Rattle.schedule.specs.Limits.{mostRows}
+use Rattle.rows.specs.InColumns.{InColumns}
 use Rattle.schedule.specs.declared.Row.{Row}
 use Rattle.book.specs.declared.Table.{Table}
 use Rattle.schedule.proofs.Row as T
@@ -67,7 +68,7 @@ use Rattle.rows.proofs.columns_in.Code as code
 abbrev stayed : Stays (f.ended .signature .params) (f.ended .kept)
 stayed = (stay-none (λ _. TB) yes, tt)
 
-short : (m n : ℕ) → m ≡ n → n ≤ 256 → m ≤ 256
+short : (m n : ℕ) → m ≡ n → n ≤ mostRows → m ≤ mostRows
 short m n e l = omega arith
 
 module _ {M : Type 1} (𝓤 : URA M) (H : Heap 𝓤) (A : Atoms 𝓤) (mem : Memory → SProp 𝓤) (run : Routine → Fun 𝓤) where
@@ -78,7 +79,7 @@ module _ {M : Type 1} (𝓤 : URA M) (H : Heap 𝓤) (A : Atoms 𝓤) (mem : Mem
   abbrev G : Contract 𝓤
   G = tripleOf 𝓤 H A g.signature (g.spec 𝓤 H A mem run)
 
-module _ {M : Type 1} (𝓤 : URA M) (H : Heap 𝓤) (A : Atoms 𝓤) (W : Given 𝓤 H A) (mem : Memory → SProp 𝓤) (run : Routine → Fun 𝓤) (t : Table) (is : Is TB t (LL.vals B.the-type B′.the-laws t)) (l : t .count ≤ 256) where
+module _ {M : Type 1} (𝓤 : URA M) (H : Heap 𝓤) (A : Atoms 𝓤) (W : Given 𝓤 H A) (mem : Memory → SProp 𝓤) (run : Routine → Fun 𝓤) (t : Table) (is : Is TB t (LL.vals B.the-type B′.the-laws t)) (l : t .count ≤ mostRows) where
   abbrev mach : Val
   mach = LL.val B.the-type B′.the-laws t
 
@@ -86,7 +87,7 @@ module _ {M : Type 1} (𝓤 : URA M) (H : Heap 𝓤) (A : Atoms 𝓤) (W : Given
   at = (mach ∷ [], tt)
 
   -- the table has 256 rows, and the accepted are the first of them
-  len : length (t .rows) ≡ 256
+  len : length (t .rows) ≡ mostRows
   len = sym (length-map (t .rows) (T.the-type .to)) ∙ LL.owed B.the-type B′.the-laws t _ is .1 .1 .0 .1 .0 .1
 
   abbrev ps : List Row
@@ -133,10 +134,10 @@ module _ {M : Type 1} (𝓤 : URA M) (H : Heap 𝓤) (A : Atoms 𝓤) (W : Given
       qed W (‵ (Slice κ r u) ∷ tok κ ∷ []) ∵ says ! (short (length (now r)) (t .count) (ap length e ∙ plen) l) $
       move ! (1 ∷ []) $ frame ! $ nothing ! $ move ! (1 ∷ 0 ∷ []) $ fjoin ! $ done !
 
-  g-said : (κ : Lft) (r : RefT (List Row)) (z : Columns) → ent 𝓤 (ensured 𝓤 H A g.ended (g.clauses 𝓤 H A mem run) (κ, tt) (r, tt) tt z) (fact 𝓤 (Apart (now r) z))
-  g-said κ r z = exE 𝓤 _ (λ ws. snd∗ 𝓤 (sem 𝓤 H A (lasts g.ended (κ, tt) (r, tt) ws)) (fact 𝓤 (Apart (now r) z)))
+  g-said : (κ : Lft) (r : RefT (List Row)) (z : Columns) → ent 𝓤 (ensured 𝓤 H A g.ended (g.clauses 𝓤 H A mem run) (κ, tt) (r, tt) tt z) (fact 𝓤 (InColumns (now r) z))
+  g-said κ r z = exE 𝓤 _ (λ ws. snd∗ 𝓤 (sem 𝓤 H A (lasts g.ended (κ, tt) (r, tt) ws)) (fact 𝓤 (InColumns (now r) z)))
 
-  exits : (z : Columns) (v : Val) → Apart ps z → ent 𝓤 (⋆ 𝓤 H A (‵ (CT .own z (v ∷ [])) ∷ ‵ Owns ∷ [])) (Post v)
+  exits : (z : Columns) (v : Val) → InColumns ps z → ent 𝓤 (⋆ 𝓤 H A (‵ (CT .own z (v ∷ [])) ∷ ‵ Owns ∷ [])) (Post v)
   exits z v e =
       qed W (‵ (CT .own z (v ∷ [])) ∷ ‵ Owns ∷ []) ∵
       suffices ! _ (ends-at 𝓤 H A f.ended stayed (f.clauses 𝓤 H A mem run) W ((tt, tt, tt, (t, tt), at), tt) v z (tt, tt) (tt, tt)) $ says ! e $
@@ -164,7 +165,7 @@ module _ {M : Type 1} (𝓤 : URA M) (H : Heap 𝓤) (A : Atoms 𝓤) (W : Given
         use2 W (raw (G 𝓤 H A mem run .pre (to-g (α ∷ []) r u))) (goes-g (α ∷ []) r u e) $
         calls-at ! fm (G 𝓤 H A mem run) known-g (to-g (α ∷ []) r u) (and-then ! (load ! (from ! (stop !)) (look ! 4 refl)) (no-more !)) (λ v.
         use1 W (later (some (λ (z : Columns). (tok (α ∷ []) ⊛ ‵ (CT .own z (v ∷ []))) ⊛ raw (ensured 𝓤 H A g.ended (g.clauses 𝓤 H A mem run) (α ∷ [], tt) (r, tt) tt z)))) (id⊢ 𝓤 _) $ await ! tt $ pick ! (λ z.
-        split ! $ move ! (1 ∷ []) $ use1 W (raw (fact 𝓤 (Apart (now r) z))) (g-said (α ∷ []) r z) $ heard ! (Apart (now r) z) (λ e′. split ! $ move ! (1 ∷ []) $
+        split ! $ move ! (1 ∷ []) $ use1 W (raw (fact 𝓤 (InColumns (now r) z))) (g-said (α ∷ []) r z) $ heard ! (InColumns (now r) z) (λ e′. split ! $ move ! (1 ∷ []) $
         peeks ! CT (Is CT) (shows 𝓤 H A CT) z (v ∷ []) (λ ok′.
         land ! (from ! (stop !)) (init ! 10 refl (LL.lawful K.the-type K′.the-laws 𝓤 H A W .typed z _ ok′ .0)) $
         -- the lifetime ends, and the table's memory is the function's own again
@@ -172,7 +173,7 @@ module _ {M : Type 1} (𝓤 : URA M) (H : Heap 𝓤) (A : Atoms 𝓤) (W : Given
         -- [room for _2; true; the result; _4; …; _3; …; _2's death; _1; …; _0; …; true; what the parameters own]
         returns ! (look ! 10 refl) $ forget ! 3 refl $ forget ! 5 refl $ forget ! 8 refl $ forget ! 10 refl $
         move ! (10 ∷ 11 ∷ []) $ free1 ! $ move ! (8 ∷ 9 ∷ []) $ free1 ! $ move ! (0 ∷ 7 ∷ []) $ free1 ! $ move ! (4 ∷ 5 ∷ []) $ free1 ! $ move ! (2 ∷ 3 ∷ []) $ free1 ! $ free0 ! $
-        keep ! (1 ∷ 3 ∷ []) $ by ! (exits z v (subst (λ (zs : List Row). Apart zs z) e e′)))))))))))))))))
+        keep ! (1 ∷ 3 ∷ []) $ by ! (exits z v (subst (λ (zs : List Row). InColumns zs z) e e′)))))))))))))))))
 
 module _ {M : Type 1} (𝓤 : URA M) (H : Heap 𝓤) (A : Atoms 𝓤) (W : Given 𝓤 H A) (mem : Memory → SProp 𝓤) (run : Routine → Fun 𝓤) where
   f-walks : (C : Calls 𝓤 H) (Λ : Loops 𝓤 H) → FmC 𝓤 H (W .laws) C → Triple 𝓤 (C #rows·accepted-rows) (Hc 𝓤 H A mem run) → Triple 𝓤 (C #rows·columns-of) (G 𝓤 H A mem run) → Walks 𝓤 H A f.ended stayed (WpFn 𝓤 H C Λ code.function) (f.clauses 𝓤 H A mem run)

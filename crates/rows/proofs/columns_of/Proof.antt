@@ -49,13 +49,14 @@ use denote.Triple.Table.{entered, cited}
 use denote.Triple.Walked.{says, needs, Stays, stay-none-slice, walkOf, goes-none-slice, Walks, ends-at, walked, walk-meets}
 use denote.Exit.{yes}
 use denote.Triple.Clauses.{ensured, lasts}
+use Rattle.schedule.specs.Limits.{mostRows, rowPlaces}
 use Rattle.schedule.specs.declared.Row.{Row}
 use Rattle.schedule.specs.Rows.{noRow}
 use Rattle.schedule.proofs.Row as T
 use Rattle.schedule.proofs.Row.Laws as T′
 use Rattle.rows.specs.declared.Columns.{Columns}
-use Rattle.rows.specs.Apart.{Apart}
-use Rattle.rows.proofs.Apart.{noColumns, apart-none, withRow, apart-more}
+use Rattle.rows.specs.InColumns.{InColumns}
+use Rattle.rows.proofs.Laid.{Laid, noColumns, laid-none, withRow, laid-more, in-columns}
 use Rattle.rows.proofs.Lent.{R, CT, numbers-val, cells-in, cells-back}
 use Rattle.rows.proofs.Columns as K
 use Rattle.rows.proofs.Columns.Laws as K′
@@ -85,22 +86,22 @@ zeros zero = tt
 zeros (suc n) = ((refl, lit< tt), zeros n)
 
 abbrev A32 : RattleType
-A32 = Array u32 257
+A32 = Array u32 rowPlaces
 
 abbrev zero-val : Val
-zero-val = arrayVal (replicate 257 (vint w32 0))
+zero-val = arrayVal (replicate rowPlaces (vint w32 0))
 
-zeros-are : Is A32 (replicate 257 0) (zero-val ∷ [])
-zeros-are = (replicate 257 (vint w32 0), ((refl, length-replicate {A = ℕ} 257 0), zeros 257))
+zeros-are : Is A32 (replicate rowPlaces 0) (zero-val ∷ [])
+zeros-are = (replicate rowPlaces (vint w32 0), ((refl, length-replicate {A = ℕ} rowPlaces 0), zeros rowPlaces))
 
 record State (ys : List Row) : Type 0 where
   j : ℕ
   c : Columns
   low : j ≤ length ys
-  got : Apart (take j ys) c
+  got : Laid (take j ys) c
 
 start : (ys : List Row) → State ys
-start ys = record { j = 0; c = noColumns; low = omega arith; got = apart-none }
+start ys = record { j = 0; c = noColumns; low = omega arith; got = laid-none }
 
 abbrev Nearer : (ys : List Row) → State ys → State ys → Type 0
 Nearer ys x y = length ys - x .j < length ys - y .j
@@ -131,7 +132,7 @@ abbrev cols : Ty
 cols = spell code-mir.table (pointee (CT .written))
 
 abbrev arr : Ty
-arr = tyArray (tyInt w32) 257
+arr = tyArray (tyInt w32) rowPlaces
 
 abbrev record-of-row : Ty
 record-of-row = spell code-mir.table (pointee (R .written))
@@ -144,7 +145,7 @@ module _ {M : Type 1} (𝓤 : URA M) (H : Heap 𝓤) (A : Atoms 𝓤) (mem : Mem
   abbrev P : Contract 𝓤
   P = tripleOf 𝓤 H A p.signature (p.spec 𝓤 H A mem run)
 
-module _ {M : Type 1} (𝓤 : URA M) (H : Heap 𝓤) (A : Atoms 𝓤) (W : Given 𝓤 H A) (mem : Memory → SProp 𝓤) (run : Routine → Fun 𝓤) (κ : Lft) (q : Share) (s : RefT (List Row)) (gn : Room R (length (s .now))) (short : length (s .now) ≤ 256) where
+module _ {M : Type 1} (𝓤 : URA M) (H : Heap 𝓤) (A : Atoms 𝓤) (W : Given 𝓤 H A) (mem : Memory → SProp 𝓤) (run : Routine → Fun 𝓤) (κ : Lft) (q : Share) (s : RefT (List Row)) (gn : Room R (length (s .now))) (short : length (s .now) ≤ mostRows) where
   abbrev ys : List Row
   ys = s .now
 
@@ -181,27 +182,27 @@ module _ {M : Type 1} (𝓤 : URA M) (H : Heap 𝓤) (A : Atoms 𝓤) (W : Given
 
   goes-p : (c : Columns) → Numbers (c .release) → Numbers (c .length) → Numbers (c .due) → ent 𝓤 (emp 𝓤) (P 𝓤 H A mem run .pre (to-p c))
   goes-p c is-release is-length is-due =
-      qed W [] ∵ nothing ! $ owned ! A32 (Is A32) (array-makes 𝓤 H A W u32 (uint-makes 𝓤 H A W w32) 257) (c .due) _ is-due $ fjoin ! $
-      owned ! A32 (Is A32) (array-makes 𝓤 H A W u32 (uint-makes 𝓤 H A W w32) 257) (c .length) _ is-length $ fjoin ! $
-      owned ! A32 (Is A32) (array-makes 𝓤 H A W u32 (uint-makes 𝓤 H A W w32) 257) (c .release) _ is-release $ fjoin ! $ nothing ! $ join ! $ frame ! $ done !
+      qed W [] ∵ nothing ! $ owned ! A32 (Is A32) (array-makes 𝓤 H A W u32 (uint-makes 𝓤 H A W w32) rowPlaces) (c .due) _ is-due $ fjoin ! $
+      owned ! A32 (Is A32) (array-makes 𝓤 H A W u32 (uint-makes 𝓤 H A W w32) rowPlaces) (c .length) _ is-length $ fjoin ! $
+      owned ! A32 (Is A32) (array-makes 𝓤 H A W u32 (uint-makes 𝓤 H A W w32) rowPlaces) (c .release) _ is-release $ fjoin ! $ nothing ! $ join ! $ frame ! $ done !
 
   p-said : (c d : Columns) → ent 𝓤 (ensured 𝓤 H A p.ended (p.clauses 𝓤 H A mem run) tt (c .release, (c .length, (c .due, tt))) tt d) (fact 𝓤 (d ≡ c))
   p-said c d = exE 𝓤 _ (λ es. snd∗ 𝓤 (sem 𝓤 H A (lasts p.ended tt (c .release, (c .length, (c .due, tt))) es)) (fact 𝓤 (d ≡ c)))
 
   -- the next turn's state
   next : (x : State ys) (r : Row) → x .j < length ys → r ≡ getD ys (x .j) noRow → State ys
-  next x r l e = record { j = x .j + 1; c = withRow (x .c) (x .j + 1) r; low = omega arith; got = apart-more ys (x .j) (x .c) r (omega arith) e (x .got) }
+  next x r l e = record { j = x .j + 1; c = withRow (x .c) (x .j + 1) r; low = omega arith; got = laid-more ys (x .j) (x .c) r (omega arith) e (x .got) }
 
   typed : (c : Columns) (u : Val) → Is CT c (u ∷ []) → Holds (hasTy cols u) × WT u
   typed c u is = LL.lawful K.the-type K′.the-laws 𝓤 H A W .typed c _ is .0
 
   numbers-typed : (xs : List ℕ) → Numbers xs → Holds (hasTy arr (numbers-val xs)) × WT (numbers-val xs)
-  numbers-typed xs is = array-lawful 𝓤 H A W u32 (uint-lawful 𝓤 H A W w32) 257 .typed xs _ is .0
+  numbers-typed xs is = array-lawful 𝓤 H A W u32 (uint-lawful 𝓤 H A W w32) rowPlaces .typed xs _ is .0
 
   zeros-typed : Holds (hasTy arr zero-val) × WT zero-val
-  zeros-typed = array-lawful 𝓤 H A W u32 (uint-lawful 𝓤 H A W w32) 257 .typed (replicate 257 0) _ zeros-are .0
+  zeros-typed = array-lawful 𝓤 H A W u32 (uint-lawful 𝓤 H A W w32) rowPlaces .typed (replicate rowPlaces 0) _ zeros-are .0
 
-  exits : (c : Columns) (u : Val) → Is CT c (u ∷ []) → Apart ys c → ent 𝓤 (⋆ 𝓤 H A (tok ∷ ‵ Own ∷ [])) (Post u)
+  exits : (c : Columns) (u : Val) → Is CT c (u ∷ []) → InColumns ys c → ent 𝓤 (⋆ 𝓤 H A (tok ∷ ‵ Own ∷ [])) (Post u)
   exits c u is got =
       qed W (tok ∷ ‵ Own ∷ []) ∵
       suffices ! _ (ends-at 𝓤 H A f.ended stayed (f.clauses 𝓤 H A mem run) W (((κ, tt), (q, tt), tt, (s, tt), (sv ∷ [], tt)), tt) u c (tt, tt) (tt, tt)) $ says ! got $
@@ -217,7 +218,7 @@ module _ {M : Type 1} (𝓤 : URA M) (H : Heap 𝓤) (A : Atoms 𝓤) (W : Given
     abbrev fm : FmC 𝓤 H (W .laws) C
     fm = fmOf 𝓤 H (W .laws) 𝓣
 
-    inside : (x : State ys) {n : ℕ} → x .j < length ys → n ≡ 257 → x .j + 1 < n
+    inside : (x : State ys) {n : ℕ} → x .j < length ys → n ≡ rowPlaces → x .j + 1 < n
     inside x l e = omega (arith, short)
 
     module _ (l₀ l₁ l₂ l₃ l₄ l₅ l₆ l₇ l₈ l₉ l₁₀ l₁₁ l₁₂ l₁₃ l₁₄ l₁₅ l₁₆ l₁₇ : ℕ) where
@@ -257,30 +258,30 @@ module _ {M : Type 1} (𝓤 : URA M) (H : Heap 𝓤) (A : Atoms 𝓤) (W : Given
           assigns ! (addr ! (from ! (stop !))) (from ! (stop !)) (init ! 21 refl (tt, tt)) $
           assigns ! (bin ! (load ! (from ! (stop !)) (look ! 21 refl)) (load ! (from ! (stop !)) (look ! 25 refl)) tt) (from ! (stop !)) (init ! 19 refl (tt, tt)) $
           rewrite ! 19 (λ (k : ℕ). ‵ (fat fullShare tyPtr l₁₀ 0 (vptr l₂ k))) (sym (place-is 4 0 (x .j + 1))) refl $
-          move ! (2 ∷ []) $ elem-out ! u32 (Is u32) (shows 𝓤 H A u32) (uint-vals w32) (uint-tells w32) fullShare (x .c .release) (x .j + 1) 0 l₂ 0 (inside x l (x .got .releases)) (λ _.
+          move ! (2 ∷ []) $ elem-out ! u32 (Is u32) (shows 𝓤 H A u32) (uint-vals w32) (uint-tells w32) fullShare (x .c .release) (x .j + 1) 0 l₂ 0 (inside x l (x .got .releases .0)) (λ _.
           assigns ! (of-opd ! (load ! (from ! (fld ! refl (stop !))) (look-in ! 29 (sub ! 1 refl (whole !))))) (from ! (hop ! (look ! 21 refl) (stop !))) (store ! 0 refl (tt, wt .0 .1 .1 .0)) $
-          move ! (1 ∷ []) $ drop ! $ owned ! u32 (Is u32) (uint-makes 𝓤 H A W w32) (r .release) _ (refl, wt .0 .1 .1 .0 .fits) $ move ! (1 ∷ 0 ∷ []) $ elem-put ! u32 fullShare (x .c .release) (x .j + 1) (r .release) (vint w32 (r .release) ∷ []) l₂ 0 (inside x l (x .got .releases)) $
+          move ! (1 ∷ []) $ drop ! $ owned ! u32 (Is u32) (uint-makes 𝓤 H A W w32) (r .release) _ (refl, wt .0 .1 .1 .0 .fits) $ move ! (1 ∷ 0 ∷ []) $ elem-put ! u32 fullShare (x .c .release) (x .j + 1) (r .release) (vint w32 (r .release) ∷ []) l₂ 0 (inside x l (x .got .releases .0)) $
           assigns ! (bin ! (load ! (from ! (stop !)) (look ! 29 refl)) (lit ! tt) (record { fits = fits4 l })) (from ! (stop !)) (store ! 25 refl (tt, record { fits = fits4 l })) $
           assigns ! (addr ! (from ! (stop !))) (from ! (stop !)) (init ! 17 refl (tt, tt)) $
           assigns ! (bin ! (load ! (from ! (stop !)) (look ! 17 refl)) (load ! (from ! (stop !)) (look ! 25 refl)) tt) (from ! (stop !)) (init ! 15 refl (tt, tt)) $
           rewrite ! 15 (λ (k : ℕ). ‵ (fat fullShare tyPtr l₁₂ 0 (vptr l₃ k))) (sym (place-is 4 0 (x .j + 1))) refl $
-          move ! (2 ∷ []) $ elem-out ! u32 (Is u32) (shows 𝓤 H A u32) (uint-vals w32) (uint-tells w32) fullShare (x .c .length) (x .j + 1) 0 l₃ 0 (inside x l (x .got .lengths)) (λ _.
+          move ! (2 ∷ []) $ elem-out ! u32 (Is u32) (shows 𝓤 H A u32) (uint-vals w32) (uint-tells w32) fullShare (x .c .length) (x .j + 1) 0 l₃ 0 (inside x l (x .got .lengths .0)) (λ _.
           assigns ! (of-opd ! (load ! (from ! (fld ! refl (stop !))) (look-in ! 29 (sub ! 2 refl (whole !))))) (from ! (hop ! (look ! 17 refl) (stop !))) (store ! 0 refl (tt, wt .0 .1 .1 .1 .0)) $
-          move ! (1 ∷ []) $ drop ! $ owned ! u32 (Is u32) (uint-makes 𝓤 H A W w32) (r .length) _ (refl, wt .0 .1 .1 .1 .0 .fits) $ move ! (1 ∷ 0 ∷ []) $ elem-put ! u32 fullShare (x .c .length) (x .j + 1) (r .length) (vint w32 (r .length) ∷ []) l₃ 0 (inside x l (x .got .lengths)) $
+          move ! (1 ∷ []) $ drop ! $ owned ! u32 (Is u32) (uint-makes 𝓤 H A W w32) (r .length) _ (refl, wt .0 .1 .1 .1 .0 .fits) $ move ! (1 ∷ 0 ∷ []) $ elem-put ! u32 fullShare (x .c .length) (x .j + 1) (r .length) (vint w32 (r .length) ∷ []) l₃ 0 (inside x l (x .got .lengths .0)) $
           assigns ! (bin ! (load ! (from ! (stop !)) (look ! 29 refl)) (lit ! tt) (record { fits = fits4 l })) (from ! (stop !)) (store ! 25 refl (tt, record { fits = fits4 l })) $
           assigns ! (addr ! (from ! (stop !))) (from ! (stop !)) (init ! 13 refl (tt, tt)) $
           assigns ! (bin ! (load ! (from ! (stop !)) (look ! 13 refl)) (load ! (from ! (stop !)) (look ! 25 refl)) tt) (from ! (stop !)) (init ! 11 refl (tt, tt)) $
           rewrite ! 11 (λ (k : ℕ). ‵ (fat fullShare tyPtr l₁₄ 0 (vptr l₄ k))) (sym (place-is 4 0 (x .j + 1))) refl $
-          move ! (2 ∷ []) $ elem-out ! u32 (Is u32) (shows 𝓤 H A u32) (uint-vals w32) (uint-tells w32) fullShare (x .c .due) (x .j + 1) 0 l₄ 0 (inside x l (x .got .dues)) (λ _.
+          move ! (2 ∷ []) $ elem-out ! u32 (Is u32) (shows 𝓤 H A u32) (uint-vals w32) (uint-tells w32) fullShare (x .c .due) (x .j + 1) 0 l₄ 0 (inside x l (x .got .dues .0)) (λ _.
           assigns-last ! (of-opd ! (load ! (from ! (fld ! refl (stop !))) (look-in ! 29 (sub ! 3 refl (whole !))))) (from ! (hop ! (look ! 13 refl) (stop !))) (store ! 0 refl (tt, wt .0 .1 .1 .1 .1 .0)) $
-          move ! (1 ∷ []) $ drop ! $ owned ! u32 (Is u32) (uint-makes 𝓤 H A W w32) (r .due) _ (refl, wt .0 .1 .1 .1 .1 .0 .fits) $ move ! (1 ∷ 0 ∷ []) $ elem-put ! u32 fullShare (x .c .due) (x .j + 1) (r .due) (vint w32 (r .due) ∷ []) l₄ 0 (inside x l (x .got .dues)) $
+          move ! (1 ∷ []) $ drop ! $ owned ! u32 (Is u32) (uint-makes 𝓤 H A W w32) (r .due) _ (refl, wt .0 .1 .1 .1 .1 .0 .fits) $ move ! (1 ∷ 0 ∷ []) $ elem-put ! u32 fullShare (x .c .due) (x .j + 1) (r .due) (vint w32 (r .due) ∷ []) l₄ 0 (inside x l (x .got .dues .0)) $
           forget ! 11 refl $ forget ! 13 refl $ forget ! 15 refl $ forget ! 17 refl $ forget ! 19 refl $ forget ! 21 refl $ forget ! 23 refl $ forget ! 25 refl $ forget ! 27 refl $
           again ! (Nearer ys) Inv x (next x r l e) (nearer (length ys) (x .j) l)))))))))
           (λ over. jumps ! $ exec ! C Λ En code-mir.t-6 (atRet En Post) $
           -- each column is whole again, in its local
-          use1 W (given (Numbers (x .c .due)) (‵ (fat fullShare arr l₄ 0 (numbers-val (x .c .due))))) (cells-back 𝓤 H A W 257 (x .c .due) l₄ (x .got .dues)) $ learn ! (λ is-due. move ! (1 ∷ []) $
-          use1 W (given (Numbers (x .c .length)) (‵ (fat fullShare arr l₃ 0 (numbers-val (x .c .length))))) (cells-back 𝓤 H A W 257 (x .c .length) l₃ (x .got .lengths)) $ learn ! (λ is-length. move ! (2 ∷ []) $
-          use1 W (given (Numbers (x .c .release)) (‵ (fat fullShare arr l₂ 0 (numbers-val (x .c .release))))) (cells-back 𝓤 H A W 257 (x .c .release) l₂ (x .got .releases)) $ learn ! (λ is-release.
+          use1 W (given (Numbers (x .c .due)) (‵ (fat fullShare arr l₄ 0 (numbers-val (x .c .due))))) (cells-back 𝓤 H A W rowPlaces (x .c .due) l₄ (x .got .dues .0)) $ learn ! (λ is-due. move ! (1 ∷ []) $
+          use1 W (given (Numbers (x .c .length)) (‵ (fat fullShare arr l₃ 0 (numbers-val (x .c .length))))) (cells-back 𝓤 H A W rowPlaces (x .c .length) l₃ (x .got .lengths .0)) $ learn ! (λ is-length. move ! (2 ∷ []) $
+          use1 W (given (Numbers (x .c .release)) (‵ (fat fullShare arr l₂ 0 (numbers-val (x .c .release))))) (cells-back 𝓤 H A W rowPlaces (x .c .release) l₂ (x .got .releases .0)) $ learn ! (λ is-release.
           assigns ! (of-opd ! (load ! (from ! (stop !)) (look ! 0 refl))) (from ! (stop !)) (init ! 9 refl (numbers-typed (x .c .release) is-release)) $
           assigns ! (of-opd ! (load ! (from ! (stop !)) (look ! 1 refl))) (from ! (stop !)) (init ! 7 refl (numbers-typed (x .c .length) is-length)) $
           assigns ! (of-opd ! (load ! (from ! (stop !)) (look ! 2 refl))) (from ! (stop !)) (init ! 5 refl (numbers-typed (x .c .due) is-due)) $
@@ -292,7 +293,7 @@ module _ {M : Type 1} (𝓤 : URA M) (H : Heap 𝓤) (A : Atoms 𝓤) (W : Given
           returns ! (look ! 36 refl) $ forget ! 0 refl $ forget ! 1 refl $ forget ! 2 refl $ forget ! 5 refl $ forget ! 7 refl $ forget ! 9 refl $ forget ! 23 refl $ forget ! 25 refl $ forget ! 29 refl $ forget ! 34 refl $ forget ! 36 refl $
           move ! (36 ∷ 37 ∷ []) $ free1 ! $ move ! (34 ∷ 35 ∷ []) $ free1 ! $ move ! (0 ∷ 33 ∷ []) $ free1 ! $ move ! (0 ∷ 31 ∷ []) $ free1 ! $ move ! (0 ∷ 29 ∷ []) $ free1 ! $
           move ! (26 ∷ 27 ∷ []) $ free1 ! $ move ! (24 ∷ 25 ∷ []) $ free1 ! $ move ! (22 ∷ 23 ∷ []) $ free1 ! $ move ! (20 ∷ 21 ∷ []) $ free1 ! $ move ! (18 ∷ 19 ∷ []) $ free1 ! $ move ! (16 ∷ 17 ∷ []) $ free1 ! $ move ! (14 ∷ 15 ∷ []) $ free1 ! $ move ! (12 ∷ 13 ∷ []) $ free1 ! $ move ! (10 ∷ 11 ∷ []) $ free1 ! $ move ! (8 ∷ 9 ∷ []) $ free1 ! $ move ! (6 ∷ 7 ∷ []) $ free1 ! $ move ! (4 ∷ 5 ∷ []) $ free1 ! $ move ! (2 ∷ 3 ∷ []) $ free1 ! $ free0 ! $
-          by ! (exits d u ok (subst (Apart ys) (sym e) (subst (λ (zs : List Row). Apart zs (x .c)) (take-all (x .j) ys (nltb→le (x .j) (length ys) over)) (x .got))))))))))))
+          by ! (exits d u ok (subst (InColumns ys) (sym e) (in-columns (subst (λ (zs : List Row). Laid zs (x .c)) (take-all (x .j) ys (nltb→le (x .j) (length ys) over)) (x .got)))))))))))))
         where
           fits : x .j < length ys → x .j + 1 < 2 ^ 64
           fits l = omega (arith, gn .0)
@@ -305,14 +306,14 @@ module _ {M : Type 1} (𝓤 : URA M) (H : Heap 𝓤) (A : Atoms 𝓤) (W : Given
     walk =
         qed W (tok ∷ ‵ (owns (ShrSlice (named 0) κ R ∷ []) (s, tt) (sv ∷ [], tt)) ∷ []) ∵ enter ! C Λ code.function (sv ∷ []) _ $
         alloc1 ! (λ l₀. alloc1 ! (λ l₁. alloc1 ! (λ l₂. alloc1 ! (λ l₃. alloc1 ! (λ l₄. alloc1 ! (λ l₅. alloc1 ! (λ l₆. alloc1 ! (λ l₇. alloc1 ! (λ l₈. alloc1 ! (λ l₉. alloc1 ! (λ l₁₀. alloc1 ! (λ l₁₁. alloc1 ! (λ l₁₂. alloc1 ! (λ l₁₃. alloc1 ! (λ l₁₄. alloc1 ! (λ l₁₅. alloc1 ! (λ l₁₆. alloc1 ! (λ l₁₇. alloc0 ! $ params1 ! $ pass1 ! (init ! 32 refl (tt, (tt, (record { fits = gn .0 }, tt)))) $ pass0 ! $
-        assigns ! (rep ! 257 (lit ! tt)) (from ! (stop !)) (init ! 30 refl zeros-typed) $
-        assigns ! (rep ! 257 (lit ! tt)) (from ! (stop !)) (init ! 28 refl zeros-typed) $
-        assigns ! (rep ! 257 (lit ! tt)) (from ! (stop !)) (init ! 26 refl zeros-typed) $
+        assigns ! (rep ! rowPlaces (lit ! tt)) (from ! (stop !)) (init ! 30 refl zeros-typed) $
+        assigns ! (rep ! rowPlaces (lit ! tt)) (from ! (stop !)) (init ! 28 refl zeros-typed) $
+        assigns ! (rep ! rowPlaces (lit ! tt)) (from ! (stop !)) (init ! 26 refl zeros-typed) $
         assigns ! (of-opd ! (lit ! tt)) (from ! (stop !)) (init ! 24 refl (tt, record { fits = lit< tt })) $
         -- each column's cell becomes a row of elements
-        owned ! A32 (Is A32) (array-makes 𝓤 H A W u32 (uint-makes 𝓤 H A W w32) 257) (replicate 257 0) _ zeros-are $ move ! (31 ∷ 0 ∷ []) $ use2 W (‵ (row u32 fullShare (replicate 257 0) l₂ 0)) (cells-in 𝓤 H A W 257 (replicate 257 0) l₂ zero-val) $
-        owned ! A32 (Is A32) (array-makes 𝓤 H A W u32 (uint-makes 𝓤 H A W w32) 257) (replicate 257 0) _ zeros-are $ move ! (30 ∷ 0 ∷ []) $ use2 W (‵ (row u32 fullShare (replicate 257 0) l₃ 0)) (cells-in 𝓤 H A W 257 (replicate 257 0) l₃ zero-val) $
-        owned ! A32 (Is A32) (array-makes 𝓤 H A W u32 (uint-makes 𝓤 H A W w32) 257) (replicate 257 0) _ zeros-are $ move ! (29 ∷ 0 ∷ []) $ use2 W (‵ (row u32 fullShare (replicate 257 0) l₄ 0)) (cells-in 𝓤 H A W 257 (replicate 257 0) l₄ zero-val) $
+        owned ! A32 (Is A32) (array-makes 𝓤 H A W u32 (uint-makes 𝓤 H A W w32) rowPlaces) (replicate rowPlaces 0) _ zeros-are $ move ! (31 ∷ 0 ∷ []) $ use2 W (‵ (row u32 fullShare (replicate rowPlaces 0) l₂ 0)) (cells-in 𝓤 H A W rowPlaces (replicate rowPlaces 0) l₂ zero-val) $
+        owned ! A32 (Is A32) (array-makes 𝓤 H A W u32 (uint-makes 𝓤 H A W w32) rowPlaces) (replicate rowPlaces 0) _ zeros-are $ move ! (30 ∷ 0 ∷ []) $ use2 W (‵ (row u32 fullShare (replicate rowPlaces 0) l₃ 0)) (cells-in 𝓤 H A W rowPlaces (replicate rowPlaces 0) l₃ zero-val) $
+        owned ! A32 (Is A32) (array-makes 𝓤 H A W u32 (uint-makes 𝓤 H A W w32) rowPlaces) (replicate rowPlaces 0) _ zeros-are $ move ! (29 ∷ 0 ∷ []) $ use2 W (‵ (row u32 fullShare (replicate rowPlaces 0) l₄ 0)) (cells-in 𝓤 H A W rowPlaces (replicate rowPlaces 0) l₄ zero-val) $
         move ! (37 ∷ []) $ fsplit ! $ move ! (1 ∷ []) $ drop ! $ move ! (1 ∷ 2 ∷ 3 ∷ 37 ∷ 0 ∷ []) $
         first ! $ blocks ! $ loops ! 𝓣 (Nearer ys) (Nearer-wf ys) (Inv l₀ l₁ l₂ l₃ l₄ l₅ l₆ l₇ l₈ l₉ l₁₀ l₁₁ l₁₂ l₁₃ l₁₄ l₁₅ l₁₆ l₁₇) (turns l₀ l₁ l₂ l₃ l₄ l₅ l₆ l₇ l₈ l₉ l₁₀ l₁₁ l₁₂ l₁₃ l₁₄ l₁₅ l₁₆ l₁₇) (start ys)))))))))))))))))))
 

@@ -5,8 +5,9 @@ use mathlib.Core.Path.{ap, _∙_}
 use mathlib.Core.List.{map}
 use lib.IntN.{ℤ}
 use lib.ListN.{getD}
-use Rattle.planner.specs.declared.Ordered.{Ordered}
-use Rattle.planner.specs.Calls.{Outcome, orderingRule, boundCall}
+use Rattle.calls.specs.declared.OrderAnswer.{OrderAnswer}
+use Rattle.calls.specs.Calls.{Outcome, boundCall}
+use Rattle.planner.specs.Promise.{orderingRule}
 use Rattle.slate.proofs.Standing.{signed-word}
 use native.Mathlib.Omega.{arith}
 use Rattle.slate.proofs.order_numbers.Statement.{statement}
@@ -27,7 +28,7 @@ same-length c = search needs
 returns : tie.Need-returns
 returns c =
     let a = c .before .before .before .before .before .before .before .before .before .before .before .args in
-    (search needs, c .before .before .name-rows .ensures ∙ ap (map (λ i. getD (a .numbers .now) i 0)) (ap (λ (o : Outcome Ordered). o .buffer) (c .before .before .before .before .before .before .order-for-bound .ensures) ∙ ap (λ (y : ℤ). boundCall orderingRule (a .book .now) y (a .order .now) .buffer) (signed-word (a .late) (omega arith) (c .before .before .before .before .before .before .before .before .signed-of .result) (c .before .before .before .before .before .before .before .before .signed-of .ensures))))
+    (search needs, c .before .before .name-rows .ensures ∙ ap (map (λ i. getD (a .numbers .now) i 0)) (ap (λ (o : Outcome OrderAnswer). o .buffer) (c .before .before .before .before .before .before .order-for-bound .ensures) ∙ ap (λ (y : ℤ). boundCall orderingRule (a .book .now) y (a .order .now) .buffer) (signed-word (a .late) (omega arith) (c .before .before .before .before .before .before .before .before .signed-of .result) (c .before .before .before .before .before .before .before .before .signed-of .ensures))))
 
 pub order-numbers-spec : {M : Type 1} → statement M
 order-numbers-spec =

@@ -2,8 +2,8 @@
 -- Assumes nothing.
 use borrow.Author.Needs.{needs}
 use mathlib.Core.Path.{sym, ap, _∙_}
-use Rattle.planner.specs.declared.Listed.{Listed}
-use Rattle.planner.specs.Calls.{gives}
+use Rattle.calls.specs.declared.ListAnswer.{ListAnswer}
+use Rattle.calls.specs.Calls.{gives}
 use Rattle.slate.proofs.Choosing.{odd-refused, list-turned, list-heard, opens}
 use Rattle.slate.proofs.print_book.Statement.{statement}
 use Rattle.slate.proofs.print_book.Tie as tie
@@ -34,28 +34,28 @@ print-refused-requires-2 c κs =
     let a = c .before .before .before .before .before .before .before .before .before .before .before .args in
     let l = c .before .before .before .before .list in
     list-turned (a .input .now) (a .book .now) (c .before .before .before .before .before .before .no-plans .result) (l .last .1 .0) (c .before .before .before .before .before .before .before .before .before .before .before .pre) (sym (c .before .before .before .before .before .before .before .before .is-odd .ensures) ∙ c .before .before .before .before .before .before .before .if1 .left) (sym (c .before .before .before .before .before .before .no-plans .ensures)) _ _
-    (ap (λ (r : Listed). gives r (l .last .1 .0)) (sym (c .before .number .given .1)) ∙ l .ensures)
+    (ap (λ (r : ListAnswer). gives r (l .last .1 .0)) (sym (c .before .number .given .1)) ∙ l .ensures)
 
 enum-known-count : tie.Need-enum-known-count
 enum-known-count c = search needs
 
-read-requires : tie.Need-read-requires
-read-requires c κs = search needs
+read-words-requires : tie.Need-read-words-requires
+read-words-requires c κs = search needs
 
 print-rows-requires : tie.Need-print-rows-requires
 print-rows-requires c κs =
     let a = c .before .before .before .before .before .before .before .before .before .before .before .before .before .args in
     let l = c .before .before .before .before .before .before .list in
-    opens (a .input .now) (a .book .now) (c .before .read .result .table) _ (l .last .1 .0)
-    (list-heard (a .input .now) (a .book .now) (c .before .before .before .before .before .before .before .before .no-plans .result) (l .last .1 .0) (c .before .before .before .before .before .before .before .before .before .before .before .before .before .pre) (sym (c .before .before .before .before .before .before .before .before .before .before .is-odd .ensures) ∙ c .before .before .before .before .before .before .before .before .before .if1 .left) (sym (c .before .before .before .before .before .before .before .before .no-plans .ensures)) _ (c .before .read .result) (c .before .read .ensures)
-    (ap (λ (r : Listed). gives r (l .last .1 .0)) (sym (c .before .before .before .count .given .1)) ∙ l .ensures))
+    opens (a .input .now) (a .book .now) (c .before .read-words .result .table) _ (l .last .1 .0)
+    (list-heard (a .input .now) (a .book .now) (c .before .before .before .before .before .before .before .before .no-plans .result) (l .last .1 .0) (c .before .before .before .before .before .before .before .before .before .before .before .before .before .pre) (sym (c .before .before .before .before .before .before .before .before .before .before .is-odd .ensures) ∙ c .before .before .before .before .before .before .before .before .before .if1 .left) (sym (c .before .before .before .before .before .before .before .before .no-plans .ensures)) _ (c .before .read-words .result) (c .before .read-words .ensures)
+    (ap (λ (r : ListAnswer). gives r (l .last .1 .0)) (sym (c .before .before .before .count .given .1)) ∙ l .ensures))
 
 print-plans-requires : tie.Need-print-plans-requires
 print-plans-requires c κs =
     let a = c .before .before .before .before .before .before .before .before .before .before .before .before .before .before .before .args in
     let l = c .before .before .before .before .before .before .before .before .list in
-    list-heard (a .input .now) (a .book .now) (c .before .before .before .before .before .before .before .before .before .before .no-plans .result) (l .last .1 .0) (c .before .before .before .before .before .before .before .before .before .before .before .before .before .before .before .pre) (sym (c .before .before .before .before .before .before .before .before .before .before .before .before .is-odd .ensures) ∙ c .before .before .before .before .before .before .before .before .before .before .before .if1 .left) (sym (c .before .before .before .before .before .before .before .before .before .before .no-plans .ensures)) _ (c .before .before .before .read .result) (c .before .before .before .read .ensures)
-    (ap (λ (r : Listed). gives r (l .last .1 .0)) (sym (c .before .before .before .before .before .count .given .1)) ∙ l .ensures)
+    list-heard (a .input .now) (a .book .now) (c .before .before .before .before .before .before .before .before .before .before .no-plans .result) (l .last .1 .0) (c .before .before .before .before .before .before .before .before .before .before .before .before .before .before .before .pre) (sym (c .before .before .before .before .before .before .before .before .before .before .before .before .is-odd .ensures) ∙ c .before .before .before .before .before .before .before .before .before .before .before .if1 .left) (sym (c .before .before .before .before .before .before .before .before .before .before .no-plans .ensures)) _ (c .before .before .before .read-words .result) (c .before .before .before .read-words .ensures)
+    (ap (λ (r : ListAnswer). gives r (l .last .1 .0)) (sym (c .before .before .before .before .before .count .given .1)) ∙ l .ensures)
 
 returns-2 : tie.Need-returns-2
 returns-2 c = search needs
@@ -76,7 +76,7 @@ print-book-spec =
     enum-known-number
     print-refused-requires-2
     enum-known-count
-    read-requires
+    read-words-requires
     print-rows-requires
     print-plans-requires
     returns-2

@@ -8,7 +8,7 @@ use mathlib.Core.Option.{some}
 use Prim.Native.Nat.{ℕ}
 use lib.ListN.{length, take, drop}
 use lib.Seq.{length-take-le}
-use Rattle.planner.specs.Promise.{signed}
+use Rattle.results.specs.Results.{signed}
 use Rattle.slate.proofs.Standing.{lent-front, lent-room, lent-count}
 use Rattle.slate.proofs.print_line.Statement.{statement}
 use Rattle.slate.proofs.print_line.Tie as tie

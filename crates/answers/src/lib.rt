@@ -1,0 +1,98 @@
+// What crosses the C boundary: one struct for every answer, and each case of an answer in it.
+ghost use mathlib.Core.Path.{_≡_};
+ghost use Rattle.calls.specs.Answers.{saidNo, saidList, saidOrder, saidVerdict, saidPlace};
+ghost use Rattle.answers.specs.Boundary.{answerOf};
+use calls::ListAnswer;
+use calls::OrderAnswer;
+use calls::VerdictAnswer;
+use row_calls::RowPlace;
+
+// What every call answers: the refusal's number, 0 for none, and its place, or the place of a row's number word; the count of plans, or the
+// first plan that beats a posting, 0 for none; end and worst lateness. A field that a case does not speak of is 0.
+#[repr(C)]
+pub struct Answer {
+    pub place: usize,
+    pub count: usize,
+    pub refusal: u32,
+    pub end: u32,
+    pub late: i32,
+}
+
+fn refused(number: u32, place: usize) -> Answer
+    ensures { λ r. ⌜ r ≡ answerOf (saidNo number place) ⌝ }
+{
+    Answer {
+        place: place,
+        count: 0,
+        refusal: number,
+        end: 0,
+        late: 0,
+    }
+}
+
+pub fn of_list(answer: ListAnswer) -> Answer
+    ensures { λ r. ⌜ r ≡ answerOf (saidList answer) ⌝ }
+{
+    match answer {
+        ListAnswer::Plans(count) => Answer {
+            place: 0,
+            count: count,
+            refusal: 0,
+            end: 0,
+            late: 0,
+        },
+        ListAnswer::Refused(number, place) => refused(number, place),
+    }
+}
+
+pub fn of_order(answer: OrderAnswer) -> Answer
+    ensures { λ r. ⌜ r ≡ answerOf (saidOrder answer) ⌝ }
+{
+    match answer {
+        OrderAnswer::Pair(end, late) => Answer {
+            place: 0,
+            count: 0,
+            refusal: 0,
+            end: end,
+            late: late,
+        },
+        OrderAnswer::Refused(number, place) => refused(number, place),
+    }
+}
+
+pub fn of_verdict(answer: VerdictAnswer) -> Answer
+    ensures { λ r. ⌜ r ≡ answerOf (saidVerdict answer) ⌝ }
+{
+    match answer {
+        VerdictAnswer::Unbeaten(end, late) => Answer {
+            place: 0,
+            count: 0,
+            refusal: 0,
+            end: end,
+            late: late,
+        },
+        VerdictAnswer::Beaten(end, late, plan) => Answer {
+            place: 0,
+            count: plan,
+            refusal: 0,
+            end: end,
+            late: late,
+        },
+        VerdictAnswer::Refused(number, place) => refused(number, place),
+    }
+}
+
+pub fn of_place(answer: RowPlace) -> Answer
+    ensures { λ r. ⌜ r ≡ answerOf (saidPlace answer) ⌝ }
+{
+    match answer {
+        RowPlace::At(place) => Answer {
+            place: place,
+            count: 0,
+            refusal: 0,
+            end: 0,
+            late: 0,
+        },
+        RowPlace::Refused(number, place) => refused(number, place),
+    }
+}

@@ -1,0 +1,33 @@
+-- `judge` meets its contract: a plan's number is 0 exactly if no plan beats the pair.
+-- Assumes nothing.
+use borrow.Author.Needs.{needs}
+use native.Mathlib.Omega.{arith}
+use lib.ListN.{take}
+use Rattle.schedule.proofs.Words.{lowered-word}
+use Rattle.listing.specs.Fronts.{pairAt, pairsOf}
+use Rattle.calls.proofs.Answered.{judge-none, judge-some}
+use Rattle.calls.proofs.judge.Statement.{statement}
+use Rattle.calls.proofs.judge.Tie as tie
+
+lower-requires : tie.Need-lower-requires
+lower-requires c κs = search needs
+
+first-beating-requires : tie.Need-first-beating-requires
+first-beating-requires c κs = search needs
+
+returns : tie.Need-returns
+returns c =
+    let a = c .before .before .before .args in
+    let d = a .desk in
+    judge-none (pairsOf (take (a .count) (a .ends .now)) (take (a .count) (a .lates .now))) (pairAt (d .minute) (d .worst)) _ (c .before .first-beating .result)
+    (lowered-word (d .worst) (c .before .before .lower .result) (omega arith) (c .before .before .lower .ensures)) (c .before .first-beating .ensures) (c .if1 .taken)
+
+returns-2 : tie.Need-returns-2
+returns-2 c =
+    let a = c .before .before .before .args in
+    let d = a .desk in
+    judge-some (pairsOf (take (a .count) (a .ends .now)) (take (a .count) (a .lates .now))) (pairAt (d .minute) (d .worst)) _ (c .before .first-beating .result)
+    (lowered-word (d .worst) (c .before .before .lower .result) (omega arith) (c .before .before .lower .ensures)) (c .before .first-beating .ensures) (c .if1 .left)
+
+pub judge-spec : {M : Type 1} → statement M
+judge-spec = tie.close (tie.spec lower-requires first-beating-requires returns returns-2)

@@ -1,0 +1,64 @@
+-- `order_into` meets its contract: too short a buffer, then what the search answers.
+-- Assumes nothing.
+use borrow.Author.Needs.{needs}
+use native.Mathlib.Omega.{arith}
+use mathlib.Core.Path.{ap, _∙_}
+use lib.IntN.{ℤ}
+use Rattle.schedule.specs.Offset.{lowered}
+use Rattle.schedule.proofs.Words.{lowered-word}
+use Rattle.calls.specs.declared.OrderAnswer.the-variants as order-answer
+use Rattle.calls.specs.Calls.{gives}
+use Rattle.calls.proofs.Answered.{order-short, order-unkept, order-kept}
+use Rattle.calls.proofs.order_into.Statement.{statement}
+use Rattle.calls.proofs.order_into.Tie as tie
+
+returns : tie.Need-returns
+returns c =
+    let b = c .before .before in
+    order-short (b .pre) (lowered (b .args .bound)) (b .args .result .now) (c .if1 .taken)
+
+order-for-requires : tie.Need-order-for-requires
+order-for-requires c κs =
+    let p = c .before .before .before .pre in
+    (p .limits, (p .low, p .few, p .early, c .before .if1 .left))
+
+enum-known-end : tie.Need-enum-known-end
+enum-known-end c = search needs
+
+enum-told : tie.Need-enum-told
+enum-told c = search needs
+
+same-length : tie.Need-same-length
+same-length c = search needs
+
+returns-2 : tie.Need-returns-2
+returns-2 c =
+    let b = c .before .before .before .before .before .before .before .before in
+    order-unkept (b .pre) (b .args .bound) (b .args .result .now) (c .before .before .before .before .before .before .if1 .left) (c .before .before .before .before .order-for .result) _ (c .before .before .before .before .order-for .ensures) (c .enum-told .given .1)
+
+lower-requires : tie.Need-lower-requires
+lower-requires c κs = search needs
+
+same-length-2 : tie.Need-same-length-2
+same-length-2 c = search needs
+
+returns-3 : tie.Need-returns-3
+returns-3 c =
+    let b = c .before .before .before .before .before .before .before .before .before .before in
+    let k = c .before .before .end .given in
+    ap (λ (z : ℤ). gives (order-answer.Pair (k .0 .0) z) (c .before .before .before .before .before .before .order-for .last .1 .1 .1 .1 .1 .1 .1 .0)) (lowered-word (k .0 .1 .0) (c .lower .result) (omega arith) (c .lower .ensures)) ∙
+    order-kept (b .pre) (b .args .bound) (b .args .result .now) (c .before .before .before .before .before .before .before .before .if1 .left) (c .before .before .before .before .before .before .order-for .result) _ (c .before .before .before .before .before .before .order-for .ensures) (k .0 .0) (k .0 .1 .0) (k .1)
+
+pub order-into-spec : {M : Type 1} → statement M
+order-into-spec =
+    tie.close
+    (tie.spec
+    returns
+    order-for-requires
+    enum-known-end
+    enum-told
+    same-length
+    returns-2
+    lower-requires
+    same-length-2
+    returns-3)

@@ -1,0 +1,113 @@
+-- Days worked through: how a table of questions and expected answers is written, and what it is for such a table to hold of the definitions.
+-- The tables are in planner/specs/Days and first_come/specs/Days. Rests on: Calls, Lines, the readers.
+use Prim.Native.Nat.{ℕ, _+_, _*_}
+use mathlib.Core.Path.{_≡_, sym, ap, _∙_}
+use mathlib.Core.List.{List, [], _∷_, _++_, map, List·Memᴰ, List·Memᴰ·head, List·Memᴰ·tail, head-eq-of-cons-eq, tail-eq-of-cons-eq}
+use lib.ListN.{length}
+use lib.IntN.{ℤ}
+use Rattle.schedule.specs.declared.Class.the-variants.{Of}
+use Rattle.row_reader.specs.RowWords.{lengthOf as lengthFor}
+use Rattle.book.specs.Rows.{Contents, accepted}
+use Rattle.readers.specs.declared.Terms.{Terms}
+use Rattle.row_calls.specs.declared.RowPlace.{RowPlace}
+use Rattle.readers.specs.Reads.{readBy}
+use Rattle.row_calls.specs.Places.{placeBy, wordsBy}
+use Rattle.calls.specs.declared.ListAnswer.{ListAnswer}
+use Rattle.calls.specs.declared.ListAnswer.the-variants as list-answer
+use Rattle.calls.specs.declared.OrderAnswer.{OrderAnswer}
+use Rattle.calls.specs.declared.OrderAnswer.the-variants as order-answer
+use Rattle.calls.specs.declared.VerdictAnswer.{VerdictAnswer}
+use Rattle.calls.specs.Calls.{Outcome, gives, listCall, boundCall, planCall, verdictCall}
+use Rattle.calls.specs.Lines.{Line, Printed, printed}
+
+-- A row of a book as the days give it: number, release, pages and due, or class.
+pub data Entry : Type 0 where
+  entry : ℕ → ℕ → ℕ → ℕ → Entry
+  sold : ℕ → ℕ → ℕ → ℕ → Entry
+
+-- A word of a kind and a value, and the words of a book.
+abbrev pub wordOf : ℕ → ℕ → ℕ
+wordOf k v = k * 536870912 + v
+
+abbrev pub entryWords : List Entry → List ℕ
+entryWords [] = []
+entryWords (entry n r p d ∷ es) = wordOf 3 n ∷ wordOf 4 r ∷ wordOf 5 p ∷ wordOf 6 d ∷ entryWords es
+entryWords (sold n r p c ∷ es) = wordOf 3 n ∷ wordOf 4 r ∷ wordOf 5 p ∷ wordOf 0 c ∷ entryWords es
+
+abbrev pub book : (free pace : ℕ) → List Entry → List ℕ
+book free pace es = wordOf 1 free ∷ wordOf 2 pace ∷ (entryWords es ++ (wordOf 7 (length es) ∷ []))
+
+-- What is asked: the reading of a book, what slate prints, one of the calls, or a length.
+pub data Asked : Type 0 where
+  reading : List ℕ → Asked
+  printing : List ℕ → Asked
+  list : List ℕ → List ℕ → Asked
+  bound : List ℕ → ℤ → List ℕ → Asked
+  plan : List ℕ → ℕ → List ℕ → Asked
+  posting : List ℕ → List ℕ → Asked
+  rowWordsOf : List ℕ → ℕ → Asked
+  rowPlaceOf : List ℕ → ℕ → Asked
+  lengthOf : (pages pace : ℕ) → Asked
+
+-- What is answered.
+pub data Reply : Type 0 where
+  reads : Contents → Reply
+  prints : Printed → Reply
+  lists : Outcome ListAnswer → Reply
+  orders : Outcome OrderAnswer → Reply
+  judges : VerdictAnswer → Reply
+  words : List ℕ → Reply
+  finds : RowPlace → Reply
+  takes : ℕ → Reply
+
+-- By a terms; what slate prints is by the ordering rule, and a length is by turnedDown.
+abbrev pub answerTo : Terms → Asked → Reply
+answerTo terms (reading b) = reads (readBy terms b)
+answerTo terms (printing b) = prints (printed terms b)
+answerTo terms (list b buffer) = lists (listCall terms b buffer)
+answerTo terms (bound b y buffer) = orders (boundCall terms b y buffer)
+answerTo terms (plan b k buffer) = orders (planCall terms b k buffer)
+answerTo terms (posting b order) = judges (verdictCall terms b order)
+answerTo terms (rowWordsOf b k) = words (wordsBy terms b k)
+answerTo terms (rowPlaceOf b k) = finds (placeBy terms b k)
+answerTo terms (lengthOf pages pace) = takes (lengthFor pages pace)
+
+-- A question of the table with its answer.
+pub record Worked : Type 0 where
+  pub asked : Asked
+  pub told : Reply
+
+abbrev pub _gets_ : Asked → Reply → Worked
+a gets b = record { asked = a; told = b }
+
+infix 10 _gets_
+-- How answers are written in the table: a book of one row with its length, due and class, or of length 5; plans with the buffer; an order's end and lateness with the buffer; a refusal with the buffer; a line.
+abbrev pub lasts : (minutes due class : ℕ) → Reply
+lasts n d c = reads (accepted (record { free = 0; rows = record { number = 901; release = 10; length = n; due = d; class = Of c } ∷ [] }))
+
+abbrev pub due : ℕ → ℕ → Reply
+due d c = lasts 5 d c
+
+abbrev pub plans : ℕ → List ℕ → Reply
+plans k b = lists (gives (list-answer.Plans k) b)
+
+abbrev pub order : ℕ → ℤ → List ℕ → Reply
+order e y b = orders (gives (order-answer.Pair e y) b)
+
+abbrev pub turnedDown : ℕ → ℕ → List ℕ → Reply
+turnedDown n p b = orders (gives (order-answer.Refused n p) b)
+
+abbrev pub line : ℕ → ℤ → List ℕ → Line
+line e y ns = record { end = e; late = y; numbers = ns }
+
+-- Two functions that give one list over a list agree at each of its elements.
+agree : {A B : Type 0} (f g : A → B) {l : List A} → map f l ≡ map g l → {a : A} → List·Memᴰ a l → f a ≡ g a
+agree f g e (List·Memᴰ·head p) = ap f p ∙ head-eq-of-cons-eq e ∙ ap g (sym p)
+agree f g e (List·Memᴰ·tail m) = agree f g (tail-eq-of-cons-eq e) m
+
+-- A table of days holds of a terms: each is answered as the table says.
+abbrev pub Hold : Terms → List Worked → Type 0
+Hold terms table = (d : Worked) → List·Memᴰ d table → answerTo terms (d .asked) ≡ d .told
+
+pub hold : (terms : Terms) (table : List Worked) → map (λ (d : Worked). answerTo terms (d .asked)) table ≡ map (λ (d : Worked). d .told) table → Hold terms table
+hold terms table e d = agree (λ (d : Worked). answerTo terms (d .asked)) (λ (d : Worked). d .told) e

@@ -1,0 +1,6 @@
+pub mod Answers
+pub mod Calls
+pub mod Lines
+pub mod Days
+pub mod Promise
+pub mod Plannable

@@ -1,0 +1,43 @@
+-- `order_by_rank` meets its contract: the search over the rows by rank answers for the rows, and the order is written as rows.
+-- Assumes nothing.
+use borrow.Author.Needs.{needs}
+use mathlib.Core.Path.{refl}
+use Rattle.plans.proofs.order_by_rank.Statement.{statement}
+use Rattle.plans.proofs.order_by_rank.Tie as tie
+use Rattle.plans.proofs.Ranked.{limits-ranked, tables, ordered-over, ranks-high, ordered-kept}
+
+tables-requires : tie.Need-tables-requires
+tables-requires c κs =
+    let p = c .before .before .before .before .before .before .pre in
+    (p .0, (p .1 .1, refl, refl, refl, refl, refl))
+
+plan-for-requires : tie.Need-plan-for-requires
+plan-for-requires c κs =
+    let p = c .before .before .before .before .before .before .before .before .before .before .before .before .pre in
+    let t = c .before .before .before .before .before .tables .ensures in
+    (limits-ranked t (p .0), (tables t (p .0) (p .1 .1), (p .1 .0, p .1 .2, search needs)))
+
+returns : tie.Need-returns
+returns c =
+    let p = c .before .before .before .before .before .before .before .before .before .before .before .before .before .before .before .pre in
+    ordered-over (c .before .before .before .before .before .before .before .before .tables .ensures) (p .0) (p .1 .0) (p .1 .1) _ _ _ _ _ (c .before .before .plan-for .ensures) (c .if1 .taken)
+
+write-order-requires : tie.Need-write-order-requires
+write-order-requires c κs =
+    let a = c .before .before .before .before .before .before .before .before .before .before .before .before .before .before .before .before .before .before .args in
+    let p = c .before .before .before .before .before .before .before .before .before .before .before .before .before .before .before .before .before .before .pre in
+    let s = c .before .before .before .before .before .plan-for .ensures in
+    (p .1 .1, p .1 .3, s .places, ranks-high (c .before .before .before .before .before .before .before .before .before .before .before .tables .ensures) (p .0) (p .1 .0) (p .1 .1) _ _ (a .out .now) _ _ s (c .before .before .before .if1 .left))
+
+same-length : tie.Need-same-length
+same-length c = search needs
+
+returns-2 : tie.Need-returns-2
+returns-2 c =
+    let p = c .before .before .before .before .before .before .before .before .before .before .before .before .before .before .before .before .before .before .before .before .before .pre in
+    ordered-kept (c .before .before .before .before .before .before .before .before .before .before .before .before .before .before .tables .ensures) (p .0) (p .1 .0) (p .1 .1) _ _ _ _ _ (c .before .before .before .before .before .before .before .before .plan-for .ensures) (c .before .before .before .before .before .before .if1 .left) _ (c .before .before .write-order .ensures)
+
+pub order-by-rank-spec : {M : Type 1} → statement M
+order-by-rank-spec =
+    tie.close
+    (tie.spec tables-requires plan-for-requires returns write-order-requires same-length returns-2)

@@ -1,0 +1,64 @@
+-- An accepted day: its rows keep the rule of the profile, and every number is in its range; so the schedule's promises hold of it.
+-- Assumes nothing.
+use Prim.Native.Nat.{ℕ, zero, suc, _≤_}
+use native.Mathlib.Omega.{arith}
+use native.Mathlib.Decide.{decLe}
+use mathlib.Core.Path.{_≡_}
+use mathlib.Core.List.{List}
+use lib.ListN.{length, List·getD-eq-default}
+use Rattle.schedule.specs.Limits.{mostRows, latestMinute, longestLength, latestDue}
+use Rattle.schedule.specs.declared.Row.{Row}
+use Rattle.schedule.specs.declared.Profile.{Profile}
+use Rattle.schedule.specs.Rows.{noRow, job, Day, jobs, rowNumbers}
+use Rattle.schedule.specs.Ranges.{Ranged}
+use Rattle.schedule.proofs.Numbers.{length-count}
+use Rattle.pairs.proofs.Clashes.{passed-none}
+use Rattle.book.specs.Rows.{accepted}
+use Rattle.book.specs.Book.{readWords}
+use Rattle.book.proofs.Whole.{by-number, whole-words}
+use Rattle.book.proofs.Readings.{AllLimited, all-limited}
+use Rattle.rows.specs.InColumns.{Within}
+use Rattle.readers.specs.declared.Terms.{Terms}
+use Rattle.readers.specs.Rules.{numberBy, ruleTests}
+use Rattle.readers.specs.Reads.{readBy}
+use Rattle.readers.specs.Accepted.{AcceptedDay, DaysAccepted}
+use Rattle.readers.proofs.Rules.{clash-mutual, obeys}
+use Rattle.readers.proofs.Contents.{tested-contents, tested-passed}
+
+-- A number that no row has stands for no row, which keeps the limits too.
+limits : (rows : List Row) → AllLimited rows → (i : ℕ) → Within latestMinute longestLength latestDue (job rows i)
+limits rows h zero = (omega arith, omega arith, omega arith)
+limits rows h (suc i) = go (decLe (suc i) (length rows))
+  where
+    go : Dec (suc i ≤ length rows) → Within latestMinute longestLength latestDue (job rows (suc i))
+    go (yes l) = h (suc i) (omega arith) l
+    go (no l) = let past : length rows ≤ i = omega arith in rw (List·getD-eq-default rows noRow past)
+        ((omega arith, omega arith, omega arith))
+
+-- An accepted book passed tests 1 to 7.
+pub read-words-gave : (terms : Terms) (book : List ℕ) (day : Day) → readBy terms book ≡ accepted day → readWords book ≡ accepted day
+unfolding readBy
+read-words-gave terms book = tested-contents (ruleTests (terms .profile)) (readWords book)
+
+pub accepted-day : DaysAccepted
+unfolding readBy
+accepted-day terms book day e =
+    let rows = day .rows in
+    let profile = terms .profile in
+    let w = whole-words book day (read-words-gave terms book day e) in
+    record {
+      rule = obeys profile rows
+          (passed-none (clash-mutual profile) (numberBy profile) rows (tested-passed (ruleTests profile) (readWords book) day e));
+      early = omega (arith, w .free, w .head .free .most);
+      some-row = w .some;
+      few-rows = w .few;
+      ranged = λ i m. let r = by-number rows (w .ranged) i m in (r .release, r .least, r .most, r .due);
+      class-dues = λ i m. by-number rows (w .ranged) i m .class;
+      limits = limits rows (all-limited rows (w .ranged));
+    }
+
+-- The ranges as the schedule asks for them: so ends are at most 17,680,000 and lateness lies between -19,999,999 and 17,680,000.
+pub accepted-ranged : {profile : Profile} {day : Day} → AcceptedDay profile day →
+    Ranged latestMinute 1 longestLength latestDue mostRows (jobs day) (day .free) (rowNumbers day)
+accepted-ranged {profile} {day} a =
+    record { early = a .early; few = omega (arith, length-count 1 (length (day .rows)), a .few-rows); ranges = a .ranged }

@@ -1,0 +1,9 @@
+pub mod Signed
+pub mod Rules
+pub mod Seconds
+pub mod Contents
+pub mod Accepted
+pub mod Settled
+pub mod OneClass
+pub mod Numbered
+pub mod Readings

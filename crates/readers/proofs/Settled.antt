@@ -1,0 +1,30 @@
+-- A book that passed tests 1 to 7 comes out as the test of its rows does.
+-- Assumes nothing.
+use mathlib.Core.Path.{_≡_, refl}
+use Rattle.refusals.specs.declared.Tested.{Tested}
+use Rattle.refusals.specs.declared.Tested.the-variants.{Passed, Refused}
+use Rattle.pairs.specs.Pairs.{numberWord}
+use Rattle.pairs.specs.Clashes.{PairsSettled}
+use Rattle.pairs.specs.Clashes as pairs
+use Rattle.pairs.proofs.Clashes.{pairs-settled}
+use Rattle.book.specs.Rows.{accepted, refusedOr}
+use Rattle.book.specs.Book.{readWords}
+use Rattle.readers.specs.Rules.{clashBy, numberBy, ruleTests}
+use Rattle.readers.specs.Reads.{readBy}
+use Rattle.readers.specs.Settled.{Settled, BooksSettled, unclashing, clashing}
+use Rattle.readers.proofs.Rules.{clash-mutual}
+use Rattle.readers.proofs.Contents.{tested-by}
+
+pub books-settled : BooksSettled
+unfolding readBy
+books-settled terms book day reads =
+    go (ruleTests (terms .profile) (day .rows)) refl
+    (pairs-settled (clashBy (terms .profile)) (clash-mutual (terms .profile)) (numberBy (terms .profile)) (day .rows))
+  where
+    gives : (o : Tested) → ruleTests (terms .profile) (day .rows) ≡ o → readBy terms book ≡ refusedOr o (accepted day)
+    gives = tested-by (ruleTests (terms .profile)) (readWords book) day reads
+
+    go : (o : Tested) → ruleTests (terms .profile) (day .rows) ≡ o →
+        PairsSettled (clashBy (terms .profile)) (numberBy (terms .profile)) (day .rows) o → Settled terms book day
+    go Passed e (pairs.unclashing h) = unclashing h (gives Passed e)
+    go (Refused _ _) e (pairs.clashing j k h) = clashing j k h (gives (Refused (numberBy (terms .profile)) (numberWord k)) e)

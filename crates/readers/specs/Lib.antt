@@ -1,0 +1,5 @@
+pub mod Rules
+pub mod Reads
+pub mod Accepted
+pub mod Settled
+pub mod OneClass

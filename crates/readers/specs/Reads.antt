@@ -1,0 +1,43 @@
+-- What a call reads: the book by what it is told beside it.
+-- Rests on: Rules, the book, the rows in columns.
+use Prim.Native.Nat.{ℕ}
+use mathlib.Core.Path.{_≡_}
+use mathlib.Core.List.{List}
+use lib.ListN.{length}
+use Rattle.schedule.specs.declared.Row.{Row}
+use Rattle.schedule.specs.Rows.{Day}
+use Rattle.refusals.specs.declared.Tested.{Tested}
+use Rattle.refusals.specs.declared.Tested.the-variants.{Passed, Refused}
+use Rattle.book.specs.Rows.{Contents, refused, accepted, refusedOr}
+use Rattle.book.specs.Book.{readWords, openBook}
+use Rattle.rows.specs.InColumns.{InColumns}
+use Rattle.readers.specs.declared.Terms.{Terms}
+use Rattle.readers.specs.declared.Given.{Given}
+use Rattle.readers.specs.Rules.{ruleTests, openRules}
+
+-- A test of the rows comes last, once they are read.
+unfoldable pub testedBy : (List Row → Tested) → Contents → Contents
+testedBy tests (refused n p) = refused n p
+testedBy tests (accepted day) = refusedOr (tests (day .rows)) (accepted day)
+
+-- The book by these terms: tests 1 to 7, then the test of the profile's rule.
+unfoldable pub readBy : Terms → List ℕ → Contents
+readBy terms book = testedBy (ruleTests (terms .profile)) (readWords book)
+
+-- How the tests came out.
+abbrev pub outcomeOf : Contents → Tested
+outcomeOf (refused n p) = Refused n p
+outcomeOf (accepted day) = Passed
+
+-- What a reader answers of these contents: how the tests came out; and of an accepted day the free minute, the count of rows, and the rows
+-- in columns.
+pub record Gives (x : Contents) (r : Given) : Type 0 where
+  pub outcome : r .outcome ≡ outcomeOf x
+  pub free : (day : Day) → x ≡ accepted day → r .free ≡ day .free
+  pub count : (day : Day) → x ≡ accepted day → r .count ≡ length (day .rows)
+  pub columns : (day : Day) → x ≡ accepted day → InColumns (day .rows) (r .columns)
+
+-- Opens every definition of this file and of those that it rests on: name it on an `unfolding` line where all is to be computed.
+unfoldable pub openReads : Unit {0}
+unfolding openBook openRules testedBy readBy
+openReads = tt

@@ -1,0 +1,2 @@
+pub mod ResultWords
+pub mod Beating

@@ -1,0 +1,47 @@
+-- The calls for a row by its number: the place of its number word, and the stretch of the book that holds its words.
+-- Rests on: the readers, the pairs' number words.
+use Prim.Native.Nat.{ℕ, _+_, _≤_}
+use mathlib.Core.Bool.{cond, _||_}
+use mathlib.Core.Path.{_≡_}
+use mathlib.Core.List.{List, []}
+use lib.Dec.{ltb, eqb}
+use lib.ListN.{length, take, drop}
+use Rattle.schedule.specs.Rows.{Day}
+use Rattle.refusals.specs.declared.Tested.{Tested}
+use Rattle.refusals.specs.Refusals.{byUnlisted}
+use Rattle.pairs.specs.Pairs.{numberWord}
+use Rattle.book.specs.Rows.{Contents, refused, accepted}
+use Rattle.readers.specs.declared.Terms.{Terms}
+use Rattle.row_calls.specs.declared.RowPlace.{RowPlace}
+use Rattle.row_calls.specs.declared.RowPlace.the-variants.{At, Refused}
+use Rattle.readers.specs.Reads.{readBy, outcomeOf, openReads}
+
+-- The call for row k: the place of its number word; or the refusal of the book, then unlisted with the count of rows as place.
+unfoldable pub placeIn : Contents → ℕ → RowPlace
+placeIn (refused n p) k = Refused n p
+placeIn (accepted day) k = cond (eqb k 0 || ltb (length (day .rows)) k) (Refused byUnlisted (length (day .rows))) (At (numberWord k))
+
+abbrev pub placeBy : Terms → List ℕ → ℕ → RowPlace
+placeBy terms book k = placeIn (readBy terms book) k
+
+-- The stretch of the book that holds the four words of a row at its place, empty where the call is refused.
+abbrev pub rowWordsAt : RowPlace → List ℕ → List ℕ
+rowWordsAt (At place) book = take 4 (drop place book)
+rowWordsAt (Refused n p) book = []
+
+abbrev pub wordsBy : Terms → List ℕ → ℕ → List ℕ
+wordsBy terms book k = rowWordsAt (placeBy terms book k) book
+
+-- The four words at a place that was found stand in the book.
+abbrev pub WordsInside : RowPlace → List ℕ → Type 0
+WordsInside f book = (place : ℕ) → f ≡ At place → place + 4 ≤ length book
+
+-- What is answered from how the tests came out and the count of rows: the place of row k in any contents that read so.
+abbrev pub PlaceAmong : Tested → (count k : ℕ) → RowPlace → Type 0
+PlaceAmong outcome count k f = (x : Contents) → outcome ≡ outcomeOf x → ((day : Day) → x ≡ accepted day → count ≡ length (day .rows)) →
+    f ≡ placeIn x k
+
+-- Opens every definition of this file and of those that it rests on.
+unfoldable pub openPlaces : Unit {0}
+unfolding openReads placeIn
+openPlaces = tt

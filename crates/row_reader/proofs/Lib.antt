@@ -1,0 +1,3 @@
+pub mod Tests
+pub mod NearestMinute
+pub mod Numbered

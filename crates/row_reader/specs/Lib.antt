@@ -1,0 +1,3 @@
+pub mod Due
+pub mod RowWords
+pub mod NearestMinute

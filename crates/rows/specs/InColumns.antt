@@ -1,0 +1,30 @@
+-- The rows of a table in columns: what the columns hold.
+-- Rests on: the schedule.
+use Prim.Native.Nat.{ℕ, _≤_}
+use mathlib.Core.Path.{_≡_}
+use mathlib.Core.List.{List}
+use lib.ListN.{length}
+use Rattle.theory.specs.Jobs.{Job}
+use Rattle.schedule.specs.Limits.{rowPlaces}
+use Rattle.schedule.specs.declared.Row.{Row}
+use Rattle.schedule.specs.Rows.{job}
+use Rattle.schedule.specs.Columns.{columns}
+use Rattle.rows.specs.declared.Columns.{Columns}
+
+-- What planning sees of each row number, in columns.
+abbrev pub jobsOf : Columns → ℕ → Job
+jobsOf c = columns (c .release) (c .length) (c .due)
+
+-- A job whose release, length and due are at most these.
+abbrev pub Within : (top long late : ℕ) → Job → Type 0
+Within top long late j = (j .release ≤ top) × (j .length ≤ long) × (j .due ≤ late)
+
+-- The columns hold the rows: the number of each row has its job.
+pub record InColumns (rows : List Row) (c : Columns) : Type 0 where
+  pub jobs : (i : ℕ) → 1 ≤ i → i ≤ length rows → jobsOf c i ≡ job rows i
+  pub releases : length (c .release) ≡ rowPlaces
+  pub lengths : length (c .length) ≡ rowPlaces
+  pub dues : length (c .due) ≡ rowPlaces
+  -- What no row exceeds, no place does.
+  pub within : (top long late : ℕ) → ((i : ℕ) → 1 ≤ i → i ≤ length rows → Within top long late (job rows i)) → (i : ℕ) →
+      Within top long late (jobsOf c i)

@@ -1,0 +1,4 @@
+pub mod TrailWords
+pub mod Trails
+pub mod Coming
+pub mod Resumed
