@@ -26,11 +26,11 @@ use Rattle.schedule.proofs.Orders.{perm-count}
 use Rattle.schedule.proofs.Numbers.{length-count}
 use Rattle.schedule.proofs.Arrival.{arrival-list, arrival-perm, arrival-kept, arrival-over}
 use Rattle.listing.specs.declared.Planned.the-variants.{Kept, Unkept}
-use Rattle.listing.specs.Answers.{plannedOf}
+use Rattle.listing.specs.PlanFor.{plannedOf}
 use Rattle.search.proofs.Signs.{late-lowers, lowered-le}
 use Rattle.listing.specs.Fronts.{HoldsPlans}
 use Rattle.arrival.specs.declared.Plan.{Plan}
-use Rattle.arrival.specs.Answers.{writtenOf, OrderGiven, Followed, Arrived}
+use Rattle.arrival.specs.Given.{writtenOf, OrderGiven, Followed, Arrived}
 
 module _ (job : ℕ → Job) (n : ℕ) where
   -- The rows 1 to n by arrival, and how many they are.
@@ -49,7 +49,8 @@ module _ (job : ℕ → Job) (n : ℕ) where
         go (yes h) = rw (List·getD-eq-default (take n order) 0 {n = k} (omega (arith, length-take-le n order (omega arith)))) (omega arith)
         go (no h) = rw (getD-take n order k 0 (omega arith)) (omega (arith, by .rows k (omega arith) .1))
 
-    pub arrived-plan : (free : ℕ) (desk : Desk) → Followed job free (take n order) desk → Arrived job free n (record { order = order; desk = desk })
+    pub arrived-plan : (free : ℕ) (desk : Desk) → Followed job free (take n order) desk →
+        Arrived job free n (record { order = order; desk = desk })
     arrived-plan free desk f =
         let l = arrival-list n job order by (omega arith) in
         record { places = size; rows = l; after = subst (λ (o : List ℕ). Followed job free o desk) l f }
@@ -66,7 +67,8 @@ module _ (job : ℕ → Job) (n : ℕ) where
     late-is = a .after .late some-row
 
     pub one-plan : (ends lates : List ℕ) → length ends ≡ mostRows → length lates ≡ mostRows →
-        HoldsPlans (plansBy FirstCome job free (countFrom 1 n)) n (record { count = 1; ends = set ends 0 (desk .minute); lates = set lates 0 (desk .worst) })
+        HoldsPlans (plansBy FirstCome job free (countFrom 1 n)) n
+        (record { count = 1; ends = set ends 0 (desk .minute); lates = set lates 0 (desk .worst) })
     unfolding plansBy
     one-plan ends lates e l = record {
       counted = refl;
@@ -85,14 +87,20 @@ module _ (job : ℕ → Job) (n : ℕ) where
     module _ (limits : Limits job) (bound : ℕ) (out : List ℕ) where
       against : leZ (pairOf job free arrived .late) (lowered bound) ≡ leb (desk .worst) bound
       against =
-          ap (λ (y : lib.IntN.ℤ). leZ y (lowered bound)) (sym (ap lowered late-is ∙ late-lowers job limits free arrived some-row)) ∙ lowered-le (desk .worst) bound
+          ap (λ (y : lib.IntN.ℤ). leZ y (lowered bound)) (sym (ap lowered late-is ∙ late-lowers job limits free arrived some-row)) ∙
+          lowered-le (desk .worst) bound
 
-      pub arrival-unkept : bound < desk .worst → OrderGiven job free (arrivalFor job free (countFrom 1 n) (lowered bound)) bound out Unkept out
+      pub arrival-unkept : bound < desk .worst →
+          OrderGiven job free (arrivalFor job free (countFrom 1 n) (lowered bound)) bound out Unkept out
       unfolding plannedOf writtenOf
       arrival-unkept h =
           let e : arrivalFor job free (countFrom 1 n) (lowered bound) ≡ none =
           arrival-over job free (countFrom 1 n) (lowered bound) (against ∙ lt-leb (desk .worst) bound h) in
-          record { answered = ap (plannedOf job free) (sym e); buffer = ap (λ (x : Option (List ℕ)). writtenOf x out) (sym e); bounded = tt }
+          record {
+            answered = ap (plannedOf job free) (sym e);
+            buffer = ap (λ (x : Option (List ℕ)). writtenOf x out) (sym e);
+            bounded = tt;
+          }
 
       pub arrival-given : desk .worst ≤ bound → (after : List ℕ) → after ≡ take n (plan .order) ++ drop n out →
           OrderGiven job free (arrivalFor job free (countFrom 1 n) (lowered bound)) bound out (Kept (desk .minute) (desk .worst)) after

@@ -13,7 +13,7 @@ use Rattle.schedule.specs.declared.Desk.{Desk}
 use Rattle.schedule.specs.Offset.{deskAt, deskAfter}
 use Rattle.schedule.specs.Columns.{Limits}
 use Rattle.search.specs.Taking.{deskThrough}
-use Rattle.arrival.specs.Answers.{Followed}
+use Rattle.arrival.specs.Given.{Followed}
 use Rattle.search.proofs.Signs.{through-late, followed-end, followed-raised}
 
 module _ (job : ℕ → Job) (free : ℕ) (posting : List ℕ) where
@@ -36,7 +36,8 @@ module _ (job : ℕ → Job) (free : ℕ) (posting : List ℕ) where
 
   module _ (limits : Limits job) (desk : Desk) (k : ℕ) (f : Following desk k) where
     -- What a row asks for.
-    pub may-follow : (i : ℕ) → (desk .minute ≤ 1000000000) × (job i .release ≤ 1000000000) × (job i .length ≤ 1000000000) × (job i .due ≤ 2147483647)
+    pub may-follow : (i : ℕ) → (desk .minute ≤ 1000000000) × (job i .release ≤ 1000000000) × (job i .length ≤ 1000000000) ×
+        (job i .due ≤ 2147483647)
     may-follow i = (
       omega (arith, f .minutes, f .past),
       omega (arith, limits .releases i),

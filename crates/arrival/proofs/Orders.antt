@@ -9,7 +9,8 @@ use lib.ListN.{length, take, drop, getD, set, length-map}
 use lib.Seq.{append-snoc, set-at, take-suc, drop-cons, length-take-le}
 
 -- One number more behind those that stand at a buffer's front.
-pub put-one : (xs out : List ℕ) (x i : ℕ) → length xs ≡ i → i < length out → set (xs ++ drop i out) i x ≡ (xs ++ (x ∷ [])) ++ drop (i + 1) out
+pub put-one : (xs out : List ℕ) (x i : ℕ) → length xs ≡ i → i < length out →
+    set (xs ++ drop i out) i x ≡ (xs ++ (x ∷ [])) ++ drop (i + 1) out
 put-one xs out x i l k =
     ap (λ (d : List ℕ). set (xs ++ d) i x) (drop-cons out i 0 k) ∙
     (set-at xs (getD out i 0) (drop (suc i) out) x i l ∙
@@ -29,6 +30,7 @@ pub write-next : (f : ℕ → ℕ) (order out : List ℕ) (i : ℕ) → i < leng
     set (map f (take i order) ++ drop i out) i (f (getD order i 0)) ≡ map f (take (i + 1) order) ++ drop (i + 1) out
 write-next f order out i h k =
     let x = getD order i 0 in
-    let t : map f (take i order) ++ (f x ∷ []) ≡ map f (take (i + 1) order) = sym (map-append f (take i order) (x ∷ [])) ∙ ap (map f) (take-next order i h) in
+    let t : map f (take i order) ++ (f x ∷ []) ≡ map f (take (i + 1) order) = sym (map-append f (take i order) (x ∷ [])) ∙
+    ap (map f) (take-next order i h) in
     put-one (map f (take i order)) out (f x) i (length-map (take i order) f ∙ length-take-le i order (omega arith)) k ∙
     ap (λ (l : List ℕ). l ++ drop (i + 1) out) t

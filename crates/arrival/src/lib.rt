@@ -3,7 +3,7 @@
 ghost use mathlib.Core.Path.{_≡_};
 ghost use mathlib.Core.List.{_++_};
 ghost use Prim.Native.Nat.{ℕ, _≤_, _<_};
-ghost use lib.ListN.{getD, take, drop};
+ghost use lib.ListN.{length, getD, take, drop};
 ghost use Rattle.schedule.specs.Limits.{EndsInTime, mostRows, rowPlaces};
 ghost use Rattle.schedule.specs.Rows.{countFrom};
 ghost use Rattle.schedule.specs.Arrival.{arrivalFor};
@@ -11,7 +11,7 @@ ghost use Rattle.schedule.specs.Profiles.{plansBy};
 ghost use Rattle.schedule.specs.Offset.{lowered};
 ghost use Rattle.schedule.specs.Columns.{at, columns, Limits};
 ghost use Rattle.listing.specs.Fronts.{HoldsPlans};
-ghost use Rattle.arrival.specs.Answers.{OrderGiven, Followed, Arrived};
+ghost use Rattle.arrival.specs.Given.{OrderGiven, Followed, Arrived};
 use listing::Front;
 use listing::Planned;
 use schedule::Desk;
@@ -26,21 +26,21 @@ struct Plan {
 // The desk after the rows of a posting in turn.
 pub fn follow<'a>(
     release: &'a [u32; Desk::PLACES],
-    length: &'a [u32; Desk::PLACES],
+    minutes: &'a [u32; Desk::PLACES],
     due: &'a [u32; Desk::PLACES],
     free: u32,
     posting: &[u32],
 ) -> Desk
-    requires { ⌜ Limits (columns (now release) (now length) (now due)) ⌝ }
-    requires { ⌜ EndsInTime free (lib.ListN.length (now posting)) × (lib.ListN.length (now posting) ≤ mostRows) ×
+    requires { ⌜ Limits (columns (now release) (now minutes) (now due)) ⌝ }
+    requires { ⌜ EndsInTime free (length (now posting)) × (length (now posting) ≤ mostRows) ×
         ((k : ℕ) → getD (now posting) k 0 ≤ mostRows) ⌝ }
-    ensures { λ r. ⌜ Followed (columns (now (release .entry)) (now (length .entry)) (now (due .entry))) free (now (posting .entry)) r ⌝ }
+    ensures { λ r. ⌜ Followed (columns (now (release .entry)) (now (minutes .entry)) (now (due .entry))) free (now (posting .entry)) r ⌝ }
 {
     let mut desk = Desk::at(free);
     let mut k = 0;
     while k < posting.len() {
         let i = posting[k] as usize;
-        desk = desk.take(release[i], length[i], due[i]);
+        desk = desk.take(release[i], minutes[i], due[i]);
         k += 1;
     }
     desk
@@ -49,19 +49,19 @@ pub fn follow<'a>(
 // The one plan by arrival.
 fn arrive<'a>(
     release: &'a [u32; Desk::PLACES],
-    length: &'a [u32; Desk::PLACES],
+    minutes: &'a [u32; Desk::PLACES],
     due: &'a [u32; Desk::PLACES],
     n: usize,
     free: u32,
 ) -> Plan
-    requires { ⌜ Limits (columns (now release) (now length) (now due)) ⌝ }
+    requires { ⌜ Limits (columns (now release) (now minutes) (now due)) ⌝ }
     requires { ⌜ (n ≤ mostRows) × EndsInTime free n ⌝ }
-    ensures { λ r. ⌜ Arrived (columns (now (release .entry)) (now (length .entry)) (now (due .entry))) free n r ⌝ }
+    ensures { λ r. ⌜ Arrived (columns (now (release .entry)) (now (minutes .entry)) (now (due .entry))) free n r ⌝ }
 {
     let mut keys: [u64; Desk::ROWS] = [0; Desk::ROWS];
     let mut order: [u32; Desk::PLACES] = [0; Desk::PLACES];
     ranks::rows_by_arrival(release, due, n, &mut keys, &mut order);
-    let desk = follow(release, length, due, free, &order[..n]);
+    let desk = follow(release, minutes, due, free, &order[..n]);
     Plan {
         order: order,
         desk: desk,
@@ -71,16 +71,17 @@ fn arrive<'a>(
 // The list by arrival: the one plan's pair.
 pub fn list_by_arrival<'a>(
     release: &'a [u32; Desk::PLACES],
-    length: &'a [u32; Desk::PLACES],
+    minutes: &'a [u32; Desk::PLACES],
     due: &'a [u32; Desk::PLACES],
     n: usize,
     free: u32,
 ) -> Front
-    requires { ⌜ Limits (columns (now release) (now length) (now due)) ⌝ }
+    requires { ⌜ Limits (columns (now release) (now minutes) (now due)) ⌝ }
     requires { ⌜ (1 ≤ n) × (n ≤ mostRows) × EndsInTime free n ⌝ }
-    ensures { λ r. ⌜ HoldsPlans (plansBy Profile.FirstCome (columns (now (release .entry)) (now (length .entry)) (now (due .entry))) free (countFrom 1 n)) n r ⌝ }
+    ensures { λ r. ⌜ HoldsPlans (plansBy Profile.FirstCome
+        (columns (now (release .entry)) (now (minutes .entry)) (now (due .entry))) free (countFrom 1 n)) n r ⌝ }
 {
-    let plan = arrive(release, length, due, n, free);
+    let plan = arrive(release, minutes, due, n, free);
     let mut ends: [u32; Desk::ROWS] = [0; Desk::ROWS];
     let mut lates: [u32; Desk::ROWS] = [0; Desk::ROWS];
     ends[0] = plan.desk.minute;
@@ -95,20 +96,20 @@ pub fn list_by_arrival<'a>(
 // The order for a bound by arrival: the one plan's, if its worst lateness is at most the bound.
 pub fn order_by_arrival<'a>(
     release: &'a [u32; Desk::PLACES],
-    length: &'a [u32; Desk::PLACES],
+    minutes: &'a [u32; Desk::PLACES],
     due: &'a [u32; Desk::PLACES],
     n: usize,
     free: u32,
     bound: u32,
     out: &mut [u32],
 ) -> Planned
-    requires { ⌜ Limits (columns (now release) (now length) (now due)) ⌝ }
-    requires { ⌜ (1 ≤ n) × (n ≤ mostRows) × EndsInTime free n × (n ≤ lib.ListN.length (now out)) ⌝ }
-    ensures { λ r. ⌜ OrderGiven (columns (now (release .entry)) (now (length .entry)) (now (due .entry))) free
-        (arrivalFor (columns (now (release .entry)) (now (length .entry)) (now (due .entry))) free (countFrom 1 n) (lowered bound))
+    requires { ⌜ Limits (columns (now release) (now minutes) (now due)) ⌝ }
+    requires { ⌜ (1 ≤ n) × (n ≤ mostRows) × EndsInTime free n × (n ≤ length (now out)) ⌝ }
+    ensures { λ r. ⌜ OrderGiven (columns (now (release .entry)) (now (minutes .entry)) (now (due .entry))) free
+        (arrivalFor (columns (now (release .entry)) (now (minutes .entry)) (now (due .entry))) free (countFrom 1 n) (lowered bound))
         bound (now (out .entry)) r (now (out .exit)) ⌝ }
 {
-    let plan = arrive(release, length, due, n, free);
+    let plan = arrive(release, minutes, due, n, free);
     let desk = plan.desk;
     if bound < desk.worst {
         return Planned::Unkept;
@@ -119,7 +120,7 @@ pub fn order_by_arrival<'a>(
 
 // The first n places of an order, to the front of a lent buffer.
 fn write_rows(order: &[u32; Desk::PLACES], n: usize, out: &mut [u32])
-    requires { ⌜ (n ≤ mostRows) × (n ≤ lib.ListN.length (now out)) × (lib.ListN.length (now order) ≡ rowPlaces) ⌝ }
+    requires { ⌜ (n ≤ mostRows) × (n ≤ length (now out)) × (length (now order) ≡ rowPlaces) ⌝ }
     ensures { λ _. ⌜ now (out .exit) ≡ take n (now (order .entry)) ++ drop n (now (out .entry)) ⌝ }
 {
     let mut k: usize = 0;

@@ -18,18 +18,18 @@ use Rattle.schedule.specs.Rows.{countFrom}
 use Rattle.schedule.specs.Desk.{Pair, endOf, pairOf}
 use Rattle.schedule.specs.Plans.{beats, firstBeating}
 use Rattle.schedule.specs.Offset.{raised, lowered}
-use Rattle.schedule.proofs.Words.{lowered-raised}
+use Rattle.schedule.proofs.SignedWords.{lowered-raised}
 use Rattle.schedule.proofs.Numbers.{length-count}
 use Rattle.refusals.specs.declared.Tested.the-variants as tested
 use Rattle.refusals.proofs.Tests.{never}
 use Rattle.postings.specs.Posting.{postingTests}
 use Rattle.listing.specs.declared.Planned.{Planned}
 use Rattle.listing.specs.declared.Planned.the-variants.{Kept, Unkept}
-use Rattle.listing.specs.Answers.{plannedOf}
+use Rattle.listing.specs.PlanFor.{plannedOf}
 use Rattle.listing.specs.declared.Front.{Front}
 use Rattle.listing.specs.Fronts.{pairAt, held, Sized, HoldsPlans}
 use Rattle.listing.proofs.Fronts.{held-at, plans-sized, plans-held}
-use Rattle.arrival.specs.Answers.{writtenOf, OrderGiven, Followed}
+use Rattle.arrival.specs.Given.{writtenOf, OrderGiven, Followed}
 use Rattle.results.specs.Results.{written, planWords, orZero}
 use Rattle.calls.specs.declared.ListAnswer.the-variants as list-answer
 use Rattle.calls.specs.declared.OrderAnswer.{OrderAnswer}

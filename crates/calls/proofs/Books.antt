@@ -15,7 +15,7 @@ use Rattle.schedule.specs.declared.Profile.{Profile}
 use Rattle.schedule.specs.declared.Profile.the-variants.{Ordering, FirstCome}
 use Rattle.schedule.specs.Rows.{Day, jobs, rowNumbers}
 use Rattle.schedule.specs.Desk.{OrderOf, pairOf}
-use Rattle.schedule.specs.Promise.{Fits32}
+use Rattle.schedule.specs.Cover.{Fits32}
 use Rattle.schedule.proofs.Numbers.{length-count}
 use Rattle.schedule.proofs.Signed.{leZ→, →leZ}
 use Rattle.schedule.proofs.Ranges.{in-range}
@@ -37,7 +37,7 @@ use Rattle.calls.specs.declared.ListAnswer.the-variants as list-answer
 use Rattle.calls.specs.declared.OrderAnswer.the-variants as order-answer
 use Rattle.calls.specs.declared.VerdictAnswer.the-variants as verdict-answer
 use Rattle.calls.specs.Calls.{Planning, planningOf, listOutcome, orderOutcome, planOutcome, verdictOutcome, listCall, boundCall, planCall, verdictCall}
-use Rattle.calls.specs.Promise.{LentMemory, TableNumber, DayInRange, ListKept, BoundKept, VerdictKept, MemoryKept, CoverKept}
+use Rattle.calls.specs.CallsPromise.{LentMemory, TableNumber, DayInRange, ListKept, BoundKept, VerdictKept, MemoryKept, CoverKept}
 use Rattle.calls.proofs.CallLaws.{list-refused, bound-refused, plan-refused, verdict-refused, list-of, bound-of, plan-of, verdict-of}
 use Rattle.calls.proofs.Kept.{Sound, list-kept, bound-kept, verdict-kept}
 use Rattle.calls.proofs.Memory.{list-no, order-no, list-memory, order-memory, plan-memory, verdict-memory}

@@ -14,8 +14,8 @@ use lib.Signed.{_≤ℤ_}
 use Rattle.schedule.specs.Rows.{countFrom}
 use Rattle.schedule.specs.Desk.{Pair, OrderOf, Attains, pairOf, endOf}
 use Rattle.schedule.specs.Plans.{beats, plans, firstBeating}
-use Rattle.schedule.specs.Promise.{Rising, Fits32}
-use Rattle.schedule.specs.Promise.{Promise as PlansPromise}
+use Rattle.schedule.specs.Cover.{Rising, Fits32}
+use Rattle.schedule.specs.Cover.{PlansPromise}
 use Rattle.schedule.proofs.Signed.{leZ→}
 use Rattle.schedule.proofs.Beats.{beats-worse, unbeaten-worse}
 use Rattle.schedule.proofs.Orders.{perm-orders, orders-perm, orders-length}
@@ -30,7 +30,7 @@ use Rattle.calls.specs.declared.OrderAnswer.the-variants as order-answer
 use Rattle.calls.specs.declared.VerdictAnswer.the-variants as verdict-answer
 use Rattle.calls.specs.Answers.{saidList, saidOrder, saidVerdict}
 use Rattle.calls.specs.Calls.{gives, nth, Planning, judgedOf, listOutcome, orderOutcome, planOutcome, verdictOutcome}
-use Rattle.calls.specs.Promise.{ReaderOrder, endBy, lateBy, NoneBeats, listedPlans, ListKept, BoundKept, VerdictKept}
+use Rattle.calls.specs.CallsPromise.{ReaderOrder, endBy, lateBy, NoneBeats, listedPlans, ListKept, BoundKept, VerdictKept}
 use Rattle.calls.proofs.CallLaws.{list-is, plan-is, plan-unlisted, verdict-no, verdict-is, order-some, order-none}
 use Rattle.calls.proofs.Plans.{signed-back, plans-back, first-none, none-first, nth-mem}
 

@@ -22,7 +22,7 @@ use Rattle.calls.specs.declared.ListAnswer.the-variants as list-answer
 use Rattle.calls.specs.declared.OrderAnswer.the-variants as order-answer
 use Rattle.calls.specs.declared.VerdictAnswer.the-variants as verdict-answer
 use Rattle.calls.specs.Calls.{gives, nth, Planning, judgedOf, listOutcome, orderOutcome, planOutcome, verdictOutcome}
-use Rattle.calls.specs.Promise.{LentMemory}
+use Rattle.calls.specs.CallsPromise.{LentMemory}
 use Rattle.calls.proofs.CallLaws.{list-narrow, list-is, plan-is, plan-unlisted, verdict-no, verdict-is, order-narrow, order-some, order-none}
 use Rattle.calls.proofs.Kept.{Sound}
 

@@ -2,5 +2,5 @@ pub mod Answers
 pub mod Calls
 pub mod Lines
 pub mod Days
-pub mod Promise
+pub mod CallsPromise
 pub mod Plannable

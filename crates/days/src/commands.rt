@@ -1,6 +1,6 @@
 // The commands.
-use crate::calls;
-use crate::calls::Answer;
+use crate::asked;
+use crate::asked::Answer;
 use crate::say;
 use crate::state;
 use crate::state::State;
@@ -46,7 +46,7 @@ fn filled(call: u8, a: Answer, words: &[u32], rows: usize) {
 
 // The whole answer of a call, where its buffer is long enough for any.
 fn whole(call: u8, book: &[u32], k: u32, words: &mut [u32]) {
-    let a = calls::ask(call, book, k, words);
+    let a = asked::ask(call, book, k, words);
     if call == b'l' && a.number == 0 {
         say::text(b" plans");
     }
@@ -58,7 +58,7 @@ fn whole(call: u8, book: &[u32], k: u32, words: &mut [u32]) {
 
 // The answer in brief, and how many words of the buffer hold what they held.
 fn into(call: u8, book: &[u32], k: u32, words: &mut [u32]) {
-    brief(call, calls::ask(call, book, k, words));
+    brief(call, asked::ask(call, book, k, words));
     say::after(b"+", held(words));
 }
 
@@ -90,7 +90,7 @@ fn digest(s: State) {
 // The verdict on a posting.
 fn judge(s: State) {
     let posting = s.posting;
-    let a = calls::verdict(
+    let a = asked::verdict(
         state::first(&s.book, s.length),
         state::first(&posting, s.entries),
     );
@@ -108,22 +108,22 @@ fn judge(s: State) {
 // The place of a row and its words, by their values.
 fn row(s: State, k: u32) {
     let book = state::first(&s.book, s.length);
-    let a = calls::row_place(book, k);
+    let a = asked::row_place(book, k);
     if a.number == 0 {
         say::after(b" at ", a.place as u64);
     } else {
         say::refusal(a.number, a.place);
     }
-    say::values(calls::row_words(book, k));
+    say::values(asked::row_words(book, k));
 }
 
 // The refusal of a book, or that it is taken.
 fn test(s: State) {
-    let a = calls::refusal(state::first(&s.book, s.length));
+    let a = asked::refusal(state::first(&s.book, s.length));
     let number = a.number;
     match number {
         0 => say::text(b" taken"),
-        calls::DIFFERENT => say::text(b" THE CALLS DIFFER"),
+        asked::DIFFERENT => say::text(b" THE CALLS DIFFER"),
         _ => say::refusal(number, a.place),
     }
 }
@@ -166,7 +166,7 @@ fn broken(s: State, number: u32, place: usize) -> State {
 }
 
 fn is_hit(s: State, number: u32, place: usize) -> bool {
-    let a = calls::refusal(state::first(&s.book, s.length));
+    let a = asked::refusal(state::first(&s.book, s.length));
     let back = if number == 8 { 3 } else { 0 };
     a.number == number && std::num::wrapping_add_usize(a.place, back) == place
 }

@@ -1,5 +1,5 @@
 // The offered calls against the pairs of every order.
-use crate::calls;
+use crate::asked;
 use crate::day;
 use crate::day::Day;
 use crate::orders;
@@ -60,7 +60,7 @@ fn same_pairs(words: &[u32], front: Front) -> bool {
 
 fn list(book: &[u32], day: Day, front: Front, t: Tally) -> Tally {
     let mut words = [0u32; 16];
-    let a = calls::list(book, &mut words);
+    let a = asked::list(book, &mut words);
     let is_right = (a.number == 0) & (a.place == front.count) & same_pairs(&words, front);
     checked(t, is_right, b'l', 0, day)
 }
@@ -103,7 +103,7 @@ fn plan(book: &[u32], day: Day, front: Front, k: usize, t: Tally) -> Tally {
     let lates = front.lates;
     let number = (k % 16) as u32 + 1;
     let mut rows = [0u32; 8];
-    let a = calls::plan(book, number, &mut rows);
+    let a = asked::plan(book, number, &mut rows);
     let is_right = (a.number == 0) & (a.end == ends[k % 16]) & (a.late == lates[k % 16]);
     let u = checked(
         t,
@@ -118,7 +118,7 @@ fn plan(book: &[u32], day: Day, front: Front, k: usize, t: Tally) -> Tally {
 // A number that no plan has is refused 11, with the count of plans as place.
 fn no_plan(book: &[u32], day: Day, front: Front, k: u32, t: Tally) -> Tally {
     let mut rows = [0u32; 8];
-    let a = calls::plan(book, k, &mut rows);
+    let a = asked::plan(book, k, &mut rows);
     checked(t, (a.number == 11) & (a.place == front.count), b'o', k, day)
 }
 
@@ -152,7 +152,7 @@ fn bound(book: &[u32], day: Day, front: Front, y: u32, t: Tally) -> Tally {
     let k = first_kept(front, y);
     let ends = front.ends;
     let mut rows = [0u32; 8];
-    let a = calls::bound(book, y, &mut rows);
+    let a = asked::bound(book, y, &mut rows);
     let u = tally::add(t, tally::BOUNDS, 1);
     if a.number != 0 {
         let v = tally::add(u, tally::UNKEPT, 1);
@@ -217,7 +217,7 @@ fn first_beating(front: Front, end: u32, late: u32) -> usize {
 fn verdict(book: &[u32], day: Day, front: Front, code: u32, t: Tally) -> Tally {
     let rows = orders::order_at(day.count, code);
     let pair = orders::pair_of(day, rows);
-    let a = calls::verdict(book, day::first(&rows, day.count));
+    let a = asked::verdict(book, day::first(&rows, day.count));
     let beating = first_beating(front, pair.end, pair.late);
     let is_right = (a.number == 0)
         & (a.end == pair.end)

@@ -4,7 +4,7 @@
 //     FREE PACE CLASS  RELEASE PAGES DUE ..     a line is a book of 1 to 8 rows, all of one class, or of none where that is 8
 //     "TEXT"                                    prints the text and a count, one after another as `tally` has them
 //     # ..                                      a comment, to the end of its line
-mod calls;
+mod asked;
 mod compare;
 mod day;
 mod input;

@@ -18,7 +18,7 @@ use Rattle.readers.specs.declared.Terms.{Terms}
 use Rattle.readers.specs.Reads.{readBy}
 use Rattle.readers.specs.Settled.{Settled}
 use Rattle.calls.specs.Calls.{listCall}
-use Rattle.calls.specs.Promise.{DayInRange, MemoryKept, CoverKept}
+use Rattle.calls.specs.CallsPromise.{DayInRange, MemoryKept, CoverKept}
 
 -- What these calls are told: a book of which no two rows cross, and its one plan, by release, then due, then row.
 abbrev pub firstCome : Terms

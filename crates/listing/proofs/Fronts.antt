@@ -19,14 +19,16 @@ pairs-length [] (l ∷ ls) h = refl
 pairs-length (e ∷ es) [] h = let z : ⊥ = omega arith in absurd z
 pairs-length (e ∷ es) (l ∷ ls) h = ap suc (pairs-length es ls (omega arith))
 
-pairs-more : (es ls : List ℕ) (e l : ℕ) → length es ≡ length ls → pairsOf (es ++ (e ∷ [])) (ls ++ (l ∷ [])) ≡ pairsOf es ls ++ (pairAt e l ∷ [])
+pairs-more : (es ls : List ℕ) (e l : ℕ) → length es ≡ length ls →
+    pairsOf (es ++ (e ∷ [])) (ls ++ (l ∷ [])) ≡ pairsOf es ls ++ (pairAt e l ∷ [])
 unfolding pairsOf
 pairs-more [] [] e l h = refl
 pairs-more [] (m ∷ ls) e l h = let z : ⊥ = omega arith in absurd z
 pairs-more (d ∷ es) [] e l h = let z : ⊥ = omega arith in absurd z
 pairs-more (d ∷ es) (m ∷ ls) e l h = ap {B = List Pair} (λ r. pairAt d m ∷ r) (pairs-more es ls e l (omega arith))
 
-pairs-at : (es ls : List ℕ) (i : ℕ) (q : Pair) → length es ≡ length ls → i < length es → getD (pairsOf es ls) i q ≡ pairAt (getD es i 0) (getD ls i 0)
+pairs-at : (es ls : List ℕ) (i : ℕ) (q : Pair) → length es ≡ length ls → i < length es →
+    getD (pairsOf es ls) i q ≡ pairAt (getD es i 0) (getD ls i 0)
 unfolding pairsOf
 pairs-at [] ls i q h k = let z : ⊥ = omega arith in absurd z
 pairs-at (e ∷ es) [] i q h k = let z : ⊥ = omega arith in absurd z
@@ -54,7 +56,8 @@ module _ (ends lates : List ℕ) (k : ℕ) (h : k ≤ length ends) (g : k ≤ le
       ap₂ pairAt (getD-take k ends i 0 l) (getD-take k lates i 0 l)
 
 pub first-more : (ends lates : List ℕ) (k : ℕ) → k < length ends → k < length lates →
-    pairsOf (take (suc k) ends) (take (suc k) lates) ≡ pairsOf (take k ends) (take k lates) ++ (pairAt (getD ends k 0) (getD lates k 0) ∷ [])
+    pairsOf (take (suc k) ends) (take (suc k) lates) ≡ pairsOf (take k ends) (take k lates) ++
+    (pairAt (getD ends k 0) (getD lates k 0) ∷ [])
 first-more ends lates k h g =
     ap₂ pairsOf (take-suc ends k 0 h) (take-suc lates k 0 g) ∙
     pairs-more (take k ends) (take k lates) (getD ends k 0) (getD lates k 0) (even ends lates k (omega arith) (omega arith))
@@ -70,5 +73,6 @@ module _ (f : Front) (s : Sized f) where
 pub plans-sized : (ps : List Pair) (n : ℕ) (r : Front) → n ≤ mostRows → HoldsPlans ps n r → Sized r
 plans-sized ps n r small h = record { few = omega (arith, h .few); ends = h .end-places; lates = h .late-places }
 
-pub plans-held : (ps : List Pair) (n : ℕ) (r : Front) → HoldsPlans ps n r → ((p : Pair) → List·Memᴰ p ps → lowered (raised (p .late)) ≡ p .late) → held r ≡ ps
+pub plans-held : (ps : List Pair) (n : ℕ) (r : Front) → HoldsPlans ps n r →
+    ((p : Pair) → List·Memᴰ p ps → lowered (raised (p .late)) ≡ p .late) → held r ≡ ps
 plans-held ps n r h lowers = (λ x. pairsOf (h .ends x) (h .lates x)) ∙ pairs-back ps lowers

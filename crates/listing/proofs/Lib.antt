@@ -1,3 +1,3 @@
 pub mod Fronts
-pub mod Answers
+pub mod PlanFor
 pub mod Lists

@@ -5,7 +5,7 @@ use native.Mathlib.Omega.{arith}
 use native.Mathlib.Numerals.{add-one}
 use mathlib.Core.Bool.{Bool, true, false, cond}
 use mathlib.Core.Path.{_≡_, refl, sym, ap, _∙_, subst}
-use mathlib.Core.List.{List, [], _∷_, _++_, map, map-append, List·Memᴰ}
+use mathlib.Core.List.{List, [], _∷_, _++_, map, map-append}
 use mathlib.Core.Logic.{_⊎_, inl, inr}
 use mathlib.Core.Option.{Option, none, some}
 use lib.Dec.{eqb}
@@ -19,22 +19,22 @@ use Rattle.schedule.specs.Rows.{countFrom}
 use Rattle.schedule.specs.Desk.{Pair, OrderOf, endOf, pairOf}
 use Rattle.schedule.specs.Picks.{orderFor}
 use Rattle.schedule.specs.Plans.{plans}
-use Rattle.schedule.specs.Promise.{Agreeing, Fits32}
+use Rattle.schedule.specs.Cover.{Agreeing, Fits32}
 use Rattle.schedule.specs.Offset.{raised, lowered}
 use Rattle.schedule.proofs.Best.{Plannable}
 use Rattle.schedule.proofs.Ranges.{fits-32}
 use Rattle.schedule.proofs.Loop.{Going, top-kept, going-first, going-same, going-next, going-end, going-room}
 use Rattle.schedule.proofs.Orders.{perm-count}
-use Rattle.schedule.proofs.Promise.{promised}
+use Rattle.schedule.proofs.Cover.{promised}
 use Rattle.schedule.proofs.Numbers.{length-count}
 use Rattle.listing.specs.declared.Front.{Front}
 use Rattle.listing.specs.declared.Planned.{Planned}
 use Rattle.listing.specs.declared.Planned.the-variants.{Kept, Unkept}
 use Rattle.schedule.specs.Columns.{Limits}
 use Rattle.listing.specs.Fronts.{pairPlace, putPair, HoldsPlans}
-use Rattle.listing.specs.Answers.{Paired}
-use Rattle.listing.specs.Answers.{plannedOf}
-use Rattle.search.specs.Answers.{orderAtRaised}
+use Rattle.listing.specs.PlanFor.{Paired}
+use Rattle.listing.specs.PlanFor.{plannedOf}
+use Rattle.search.specs.Searched.{orderAtRaised}
 use Rattle.search.proofs.Signs.{lowered-pred, late-lowers}
 
 -- The place of the next pair.
@@ -61,7 +61,8 @@ module _ (ends : List ℕ) where
 pub length-more : (ps : List Pair) (p : Pair) → length (ps ++ (p ∷ [])) ≡ suc (length ps)
 length-more ps p = omega (arith, length-append ps (p ∷ []))
 
-column-more : (f : Pair → ℕ) (xs : List ℕ) (done : List Pair) (last : Pair) → length done < length xs → take (length done) xs ≡ map f done → getD xs (length done) 0 ≡ f last →
+column-more : (f : Pair → ℕ) (xs : List ℕ) (done : List Pair) (last : Pair) → length done < length xs →
+    take (length done) xs ≡ map f done → getD xs (length done) 0 ≡ f last →
     take (suc (length done)) xs ≡ map f (done ++ (last ∷ []))
 column-more f xs done last h e g =
     take-suc xs (length done) 0 h ∙ ((λ x. e x ++ (g x ∷ [])) ∙ sym (map-append f done (last ∷ [])))
@@ -90,11 +91,13 @@ module _ (job : ℕ → Job) (n free : ℕ) where
     pub late-places : length (front .lates) ≡ mostRows
     pub so-far : ((front .count ≡ 0) × (bound ≡ 4294967295)) ⊎ Begun front bound
 
-  pub listing-first : (front : Front) → front .count ≡ 0 → length (front .ends) ≡ mostRows → length (front .lates) ≡ mostRows → Listing front 4294967295
+  pub listing-first : (front : Front) → front .count ≡ 0 → length (front .ends) ≡ mostRows → length (front .lates) ≡ mostRows →
+      Listing front 4294967295
   listing-first front c e l = record { end-places = e; late-places = l; so-far = inl (c, refl) }
 
   -- The order behind an answer.
-  answer-some : (x : Option (List ℕ)) (e l : ℕ) → Kept e l ≡ plannedOf job free x → (o : List ℕ) × (x ≡ some o) × (e ≡ endOf job free o) × (l ≡ raised (pairOf job free o .late))
+  answer-some : (x : Option (List ℕ)) (e l : ℕ) → Kept e l ≡ plannedOf job free x → (o : List ℕ) × (x ≡ some o) ×
+      (e ≡ endOf job free o) × (l ≡ raised (pairOf job free o .late))
   unfolding plannedOf
   answer-some none e l h = let z : _≡_ {A = ℕ} 1 0 = ap mark h in let x : ⊥ = omega arith in absurd x
     where
@@ -120,7 +123,8 @@ module _ (job : ℕ → Job) (n free : ℕ) where
       mark Unkept = 0
       mark (Kept e l) = 1
 
-  module _ (limits : Limits job) (low : 1 ≤ n) (small : n ≤ mostRows) (early : EndsInTime free n) (agreeing : Agreeing job (countFrom 1 n)) where
+  module _ (limits : Limits job) (low : 1 ≤ n) (small : n ≤ mostRows) (early : EndsInTime free n)
+      (agreeing : Agreeing job (countFrom 1 n)) where
     some-row : 0 < length rows
     some-row = omega (arith, length-count 1 n)
 
@@ -139,13 +143,6 @@ module _ (job : ℕ → Job) (n free : ℕ) where
 
     order-rows : (o : List ℕ) → OrderOf rows o → 1 ≤ length o
     order-rows o w = omega (arith, perm-count w .0, some-row)
-
-    -- The raised lateness of a plan lowers to its lateness.
-    pub plan-lowers : (p : Pair) → List·Memᴰ p (plans job free rows) → lowered (raised (p .late)) ≡ p .late
-    plan-lowers p m =
-        let u = promised job free rows agreeing some-row .attains p m in
-        ap (λ (q : Pair). lowered (raised (q .late))) (sym (u .2 .1)) ∙
-        (late-lowers job limits free (u .0) (order-rows (u .0) (u .2 .0)) ∙ ap (λ (q : Pair). q .late) (u .2 .1))
 
     module _ (front : Front) (bound : ℕ) (s : Listing front bound) where
       -- The bound is not kept: the list is at its end.
@@ -166,17 +163,20 @@ module _ (job : ℕ → Job) (n free : ℕ) where
                 few = omega (arith, b .count, room, k);
                 ends =
                     ap (λ (m : ℕ). take m (front .ends)) (b .count) ∙
-                    (column-more (λ p. p .end) (front .ends) (b .done) (b .last) (omega (arith, s .end-places, room, k)) (b .ends) (b .end) ∙ ap (map (λ (p : Pair). p .end)) (sym e));
+                    (column-more (λ p. p .end) (front .ends) (b .done) (b .last) (omega (arith, s .end-places, room, k)) (b .ends)
+                    (b .end) ∙ ap (map (λ (p : Pair). p .end)) (sym e));
                 lates =
                     ap (λ (m : ℕ). take m (front .lates)) (b .count) ∙
-                    (column-more late-of (front .lates) (b .done) (b .last) (omega (arith, s .late-places, room, k)) (b .lates) (b .late) ∙ ap (map late-of) (sym e));
+                    (column-more late-of (front .lates) (b .done) (b .last) (omega (arith, s .late-places, room, k)) (b .lates)
+                    (b .late) ∙ ap (map late-of) (sym e));
                 end-places = s .end-places;
                 late-places = s .late-places;
               }
 
       -- One pair more.
       module _ (e l : ℕ) (a : Paired job n free bound (Kept e l)) where
-        found : (o : List ℕ) × (orderFor job free rows (lowered bound) ≡ some o) × (e ≡ endOf job free o) × (l ≡ raised (pairOf job free o .late))
+        found : (o : List ℕ) × (orderFor job free rows (lowered bound) ≡ some o) × (e ≡ endOf job free o) ×
+            (l ≡ raised (pairOf job free o .late))
         found = answer-some (orderAtRaised job n free bound) e l (a .answered)
 
         abbrev pair : Pair
@@ -210,30 +210,46 @@ module _ (job : ℕ → Job) (n free : ℕ) where
           where
             go : ((front .count ≡ 0) × (bound ≡ 4294967295)) ⊎ Begun front bound → Placed
             go (inl h) =
-                let g = onward [] (going-first plannable fits (found .0) (ap (λ (b : ℕ). orderFor job free rows (lowered b)) (sym (h .1)) ∙ found .1)) in
-                record { done = []; place = sym (place-none (front .ends) (front .count) e (h .0)); room = low; ends = refl; lates = refl; going = g }
+                let g = onward [] (going-first plannable fits (found .0)
+                (ap (λ (b : ℕ). orderFor job free rows (lowered b)) (sym (h .1)) ∙ found .1)) in
+                record {
+                  done = [];
+                  place = sym (place-none (front .ends) (front .count) e (h .0));
+                  room = low;
+                  ends = refl;
+                  lates = refl;
+                  going = g;
+                }
             go (inr b) = test (eqb (b .last .end) (pair .end)) refl
               where
-                at : (t : Bool) → eqb (b .last .end) (pair .end) ≡ t → pairPlace (front .ends) (front .count) e ≡ cond t (length (b .done)) (suc (length (b .done)))
+                at : (t : Bool) → eqb (b .last .end) (pair .end) ≡ t →
+                    pairPlace (front .ends) (front .count) e ≡ cond t (length (b .done)) (suc (length (b .done)))
                 at t h =
                     ap (λ (k : ℕ). pairPlace (front .ends) k e) (b .count) ∙
-                    unfold pairPlace in ap (λ (c : Bool). cond c (length (b .done)) (suc (length (b .done)))) ((λ x. eqb (b .end x) (found .2 x)) ∙ h)
+                    unfold pairPlace in ap (λ (c : Bool). cond c (length (b .done)) (suc (length (b .done))))
+                    ((λ x. eqb (b .end x) (found .2 x)) ∙ h)
 
                 test : (t : Bool) → eqb (b .last .end) (pair .end) ≡ t → Placed
                 test true h =
-                    let g = onward (b .done) (going-same plannable fits (b .done) (b .last) (lowered bound) (found .0) (b .going) (found .1) h) in
+                    let g = onward (b .done) (going-same plannable fits (b .done) (b .last) (lowered bound) (found .0) (b .going)
+                    (found .1) h) in
                     record { done = b .done; place = at true h; room = room-for (b .done) g; ends = b .ends; lates = b .lates; going = g }
                 test false h =
                     let done = b .done ++ (b .last ∷ []) in
                     let more = length-more (b .done) (b .last) in
-                    let g = onward done (going-next plannable fits (b .done) (b .last) (lowered bound) (found .0) (b .going) (found .1) h) in
+                    let g = onward done (going-next plannable fits (b .done) (b .last) (lowered bound) (found .0) (b .going)
+                    (found .1) h) in
                     let r = room-for done g in
                     record {
                       done = done;
                       place = at false h ∙ sym more;
                       room = r;
-                      ends = ap (λ (k : ℕ). take k (front .ends)) more ∙ column-more (λ p. p .end) (front .ends) (b .done) (b .last) (omega (arith, s .end-places, r, more)) (b .ends) (b .end);
-                      lates = ap (λ (k : ℕ). take k (front .lates)) more ∙ column-more late-of (front .lates) (b .done) (b .last) (omega (arith, s .late-places, r, more)) (b .lates) (b .late);
+                      ends = ap (λ (k : ℕ). take k (front .ends)) more ∙
+                          column-more (λ p. p .end) (front .ends) (b .done) (b .last) (omega (arith, s .end-places, r, more)) (b .ends)
+                          (b .end);
+                      lates = ap (λ (k : ℕ). take k (front .lates)) more ∙
+                          column-more late-of (front .lates) (b .done) (b .last) (omega (arith, s .late-places, r, more)) (b .lates)
+                          (b .late);
                       going = g;
                     }
 
@@ -247,8 +263,10 @@ module _ (job : ℕ → Job) (n free : ℕ) where
         pub listing-next : (r : Front) → r ≡ putPair front e l → Listing r (l - 1)
         listing-next r made =
             let k = length (placed .done) in
-            let x : r .ends ≡ set (front .ends) k e = ap (λ (f : Front). f .ends) made ∙ ap (λ (m : ℕ). set (front .ends) m e) (placed .place) in
-            let y : r .lates ≡ set (front .lates) k l = ap (λ (f : Front). f .lates) made ∙ ap (λ (m : ℕ). set (front .lates) m l) (placed .place) in
+            let x : r .ends ≡ set (front .ends) k e = ap (λ (f : Front). f .ends) made ∙
+            ap (λ (m : ℕ). set (front .ends) m e) (placed .place) in
+            let y : r .lates ≡ set (front .lates) k l = ap (λ (f : Front). f .lates) made ∙
+            ap (λ (m : ℕ). set (front .lates) m l) (placed .place) in
             let h : k ≤ k = omega arith in
             record {
               end-places = ap length x ∙ (length-set (front .ends) k e ∙ s .end-places);
@@ -259,8 +277,10 @@ module _ (job : ℕ → Job) (n free : ℕ) where
                 count = ap (λ (f : Front). f .count) made ∙ (ap (λ (m : ℕ). m + 1) (placed .place) ∙ add-one k);
                 ends = ap (take k) x ∙ (take-set-le k (front .ends) k e h ∙ placed .ends);
                 lates = ap (take k) y ∙ (take-set-le k (front .lates) k l h ∙ placed .lates);
-                end = ap (λ (xs : List ℕ). getD xs k 0) x ∙ (getD-set-same (front .ends) k e 0 (omega (arith, placed .room, s .end-places)) ∙ found .2);
-                late = ap (λ (xs : List ℕ). getD xs k 0) y ∙ (getD-set-same (front .lates) k l 0 (omega (arith, placed .room, s .late-places)) ∙ found .3);
+                end = ap (λ (xs : List ℕ). getD xs k 0) x ∙
+                    (getD-set-same (front .ends) k e 0 (omega (arith, placed .room, s .end-places)) ∙ found .2);
+                late = ap (λ (xs : List ℕ). getD xs k 0) y ∙
+                    (getD-set-same (front .lates) k l 0 (omega (arith, placed .room, s .late-places)) ∙ found .3);
                 going = placed .going;
               });
             }

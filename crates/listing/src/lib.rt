@@ -1,15 +1,15 @@
 // The list of plans of rows that stand by rank, where a row's number is its rank: found with ever smaller bounds, along a trail of blocks.
 // Rows are numbered from 1, so columns have 257 places; 0 stands for no row. Latenesses and bounds are raised by 2^31.
 ghost use mathlib.Core.Path.{_≡_};
+ghost use lib.ListN.{length};
 ghost use Prim.Native.Nat.{_≤_, _<_};
-ghost use lib.ListN;
 ghost use Rattle.schedule.specs.Limits.{EndsInTime, mostRows};
 ghost use Rattle.schedule.specs.Rows.{countFrom};
 ghost use Rattle.schedule.specs.Plans.{plans};
-ghost use Rattle.schedule.specs.Promise.{Agreeing};
+ghost use Rattle.schedule.specs.Cover.{Agreeing};
 ghost use Rattle.schedule.specs.Columns.{at, columns, Limits};
 ghost use Rattle.picks.specs.Standing.{Tables};
-ghost use Rattle.listing.specs.Answers.{answerOf};
+ghost use Rattle.listing.specs.PlanFor.{answerOf};
 ghost use Rattle.listing.specs.Fronts.{pairPlace, putPair, HoldsPlans};
 use schedule::Desk;
 
@@ -56,7 +56,8 @@ fn put_pair(
     late: u32,
 ) -> usize
     requires { ⌜ (count ≤ mostRows) × (pairPlace (now ends) count end < mostRows) ⌝ }
-    ensures { λ r. ⌜ record { count = r; ends = now (ends .exit); lates = now (lates .exit) } ≡ putPair (record { count = count; ends = now (ends .entry); lates = now (lates .entry) }) end late ⌝ }
+    ensures { λ r. ⌜ record { count = r; ends = now (ends .exit); lates = now (lates .exit) } ≡ putPair
+        (record { count = count; ends = now (ends .entry); lates = now (lates .entry) }) end late ⌝ }
 {
     let k = pair_place(ends, count, end);
     ends[k] = end;
@@ -77,24 +78,26 @@ fn answer(desk: Desk, bound: u32) -> Planned
 // The list of rows that stand by rank, with a trail of as many places as rows at least.
 fn list_along(
     release: &[u32; Desk::PLACES],
-    length: &[u32; Desk::PLACES],
+    minutes: &[u32; Desk::PLACES],
     due: &[u32; Desk::PLACES],
     by: &[u32; Desk::PLACES],
     n: usize,
     free: u32,
     trail: &mut [[u64; 10]],
 ) -> Front
-    requires { ⌜ Limits (columns (now release) (now length) (now due)) ⌝ }
-    requires { ⌜ Tables n (columns (now release) (now length) (now due)) (at (now by)) ⌝ }
-    requires { ⌜ (1 ≤ n) × EndsInTime free n × (n ≤ lib.ListN.length (now trail)) × Agreeing (columns (now release) (now length) (now due)) (countFrom 1 n) ⌝ }
-    ensures { λ r. ⌜ HoldsPlans (plans (columns (now (release .entry)) (now (length .entry)) (now (due .entry))) free (countFrom 1 n)) n r ⌝ }
+    requires { ⌜ Limits (columns (now release) (now minutes) (now due)) ⌝ }
+    requires { ⌜ Tables n (columns (now release) (now minutes) (now due)) (at (now by)) ⌝ }
+    requires { ⌜ (1 ≤ n) × EndsInTime free n × (n ≤ length (now trail)) ×
+        Agreeing (columns (now release) (now minutes) (now due)) (countFrom 1 n) ⌝ }
+    ensures { λ r. ⌜ HoldsPlans (plans (columns (now (release .entry)) (now (minutes .entry)) (now (due .entry))) free (countFrom 1 n)) n
+        r ⌝ }
 {
     let mut order: [u32; Desk::ROWS] = [0; Desk::ROWS];
     let mut ends: [u32; Desk::ROWS] = [0; Desk::ROWS];
     let mut lates: [u32; Desk::ROWS] = [0; Desk::ROWS];
     let mut count: usize = 0;
     let mut bound: u32 = LARGEST_BOUND;
-    let mut reached = trail::set_out(release, length, due, by, n, free, bound, &mut order, trail);
+    let mut reached = trail::set_out(release, minutes, due, by, n, free, bound, &mut order, trail);
     loop {
         let Planned::Kept(end, late) = answer(reached.at.desk, bound) else {
             return Front {
@@ -107,7 +110,7 @@ fn list_along(
         bound = late - 1;
         reached = trail::resume(
             release,
-            length,
+            minutes,
             due,
             by,
             n,
@@ -122,21 +125,22 @@ fn list_along(
 // The list of rows that stand by rank. A small day gets a small trail, which is sooner laid out.
 pub fn list_ranked(
     release: &[u32; Desk::PLACES],
-    length: &[u32; Desk::PLACES],
+    minutes: &[u32; Desk::PLACES],
     due: &[u32; Desk::PLACES],
     by: &[u32; Desk::PLACES],
     n: usize,
     free: u32,
 ) -> Front
-    requires { ⌜ Limits (columns (now release) (now length) (now due)) ⌝ }
-    requires { ⌜ Tables n (columns (now release) (now length) (now due)) (at (now by)) ⌝ }
-    requires { ⌜ (1 ≤ n) × EndsInTime free n × Agreeing (columns (now release) (now length) (now due)) (countFrom 1 n) ⌝ }
-    ensures { λ r. ⌜ HoldsPlans (plans (columns (now (release .entry)) (now (length .entry)) (now (due .entry))) free (countFrom 1 n)) n r ⌝ }
+    requires { ⌜ Limits (columns (now release) (now minutes) (now due)) ⌝ }
+    requires { ⌜ Tables n (columns (now release) (now minutes) (now due)) (at (now by)) ⌝ }
+    requires { ⌜ (1 ≤ n) × EndsInTime free n × Agreeing (columns (now release) (now minutes) (now due)) (countFrom 1 n) ⌝ }
+    ensures { λ r. ⌜ HoldsPlans (plans (columns (now (release .entry)) (now (minutes .entry)) (now (due .entry))) free (countFrom 1 n)) n
+        r ⌝ }
 {
     if n <= SMALL_DAY {
         let mut trail: [[u64; 10]; SMALL_DAY] = [[0; 10]; SMALL_DAY];
-        return list_along(release, length, due, by, n, free, &mut trail);
+        return list_along(release, minutes, due, by, n, free, &mut trail);
     }
     let mut trail: [[u64; 10]; Desk::ROWS] = [[0; 10]; Desk::ROWS];
-    list_along(release, length, due, by, n, free, &mut trail)
+    list_along(release, minutes, due, by, n, free, &mut trail)
 }

@@ -45,5 +45,5 @@ late-past s h k u v = let z : ⊥ = omega arith in absurd z
 -- From one place in the rows by release to a later one, whatever the rows left over.
 abbrev pub Toward : (release by : List ℕ) (n t from : ℕ) (ready : List ℕ) (next : ℕ) (more : List ℕ) → Type 0
 Toward release by n t from ready next more =
-    (length due rest : List ℕ) → Tables n (columns release length due) (at by) → Stands n (columns release length due) (at by) t rest from ready →
-    Stands n (columns release length due) (at by) t rest next more
+    (minutes due rest : List ℕ) → Tables n (columns release minutes due) (at by) → Stands n (columns release minutes due) (at by) t rest from ready →
+    Stands n (columns release minutes due) (at by) t rest next more

@@ -52,7 +52,8 @@ fn lowest(ready: &[u64; 5]) -> usize
 // The least number of the set after i, its least number; or 0.
 fn next_after(ready: &[u64; 5], i: usize) -> usize
     requires { ⌜ (i < 320) × ((p : ℕ → Bool) × Words p (now ready) × (p i ≡ true)) ⌝ }
-    ensures { λ r. ⌜ ((p : ℕ → Bool) → Words p (now (ready .entry)) → p 0 ≡ false → p i ≡ true → ((j : ℕ) → j < i → p j ≡ false) → Least (mark i false p) r) ⌝ }
+    ensures { λ r. ⌜ ((p : ℕ → Bool) → Words p (now (ready .entry)) → p 0 ≡ false → p i ≡ true → ((j : ℕ) → j < i → p j ≡ false) →
+        Least (mark i false p) r) ⌝ }
 {
     let mut q = i / 64;
     let mut w = ready[q] - (1 << (i % 64));
@@ -97,7 +98,8 @@ fn wide(x: u32) -> usize
 fn front(by: &[u32; Desk::PLACES], n: usize, j: usize, next: usize) -> usize
     requires { ⌜ n ≤ mostRows ⌝ }
     ensures { λ r. ⌜ ((job : ℕ → Job) (t : ℕ) (rest ready : List ℕ) → Tables n job (at (now (by .entry))) →
-        (s : Stands n job (at (now (by .entry))) t rest next ready) → Least (s .set) j → Late n job (at (now (by .entry))) t next → r ≡ firstPick job t rest) ⌝ }
+        (s : Stands n job (at (now (by .entry))) t rest next ready) → Least (s .set) j → Late n job (at (now (by .entry))) t next →
+        r ≡ firstPick job t rest) ⌝ }
 {
     if j != 0 {
         return j;
@@ -110,7 +112,8 @@ fn front(by: &[u32; Desk::PLACES], n: usize, j: usize, next: usize) -> usize
 
 // Both picks.
 pub fn picks(by: &[u32; Desk::PLACES], n: usize, ready: &[u64; 5], next: usize) -> Picked
-    requires { ⌜ (n ≤ mostRows) × ((job : ℕ → Job) × (t : ℕ) × (rest : List ℕ) × Tables n job (at (now by)) × Stands n job (at (now by)) t rest next (now ready)) ⌝ }
+    requires { ⌜ (n ≤ mostRows) × ((job : ℕ → Job) × (t : ℕ) × (rest : List ℕ) × Tables n job (at (now by)) ×
+        Stands n job (at (now by)) t rest next (now ready)) ⌝ }
     ensures { λ r. ⌜ ((job : ℕ → Job) (t : ℕ) (rest : List ℕ) → Tables n job (at (now (by .entry))) →
         Stands n job (at (now (by .entry))) t rest next (now (ready .entry)) → Late n job (at (now (by .entry))) t next →
         (r .first ≡ firstPick job t rest) × (r .second ≡ secondPick job t rest)) ⌝ }
@@ -145,9 +148,12 @@ fn advance(
     from: usize,
     t: u32,
 ) -> usize
-    requires { ⌜ ((length due : List ℕ) × (rest : List ℕ) × Tables n (columns (now release) length due) (at (now by)) × Stands n (columns (now release) length due) (at (now by)) t rest from (now ready)) ⌝ }
-    ensures { λ r. ⌜ ((length due rest : List ℕ) → Tables n (columns (now (release .entry)) length due) (at (now (by .entry))) → Stands n (columns (now (release .entry)) length due) (at (now (by .entry))) t rest from (now (ready .entry)) →
-        Stands n (columns (now (release .entry)) length due) (at (now (by .entry))) t rest r (now (ready .exit)) × Late n (columns (now (release .entry)) length due) (at (now (by .entry))) t r) ⌝ }
+    requires { ⌜ ((minutes due : List ℕ) × (rest : List ℕ) × Tables n (columns (now release) minutes due) (at (now by)) ×
+        Stands n (columns (now release) minutes due) (at (now by)) t rest from (now ready)) ⌝ }
+    ensures { λ r. ⌜ ((minutes due rest : List ℕ) → Tables n (columns (now (release .entry)) minutes due) (at (now (by .entry))) →
+        Stands n (columns (now (release .entry)) minutes due) (at (now (by .entry))) t rest from (now (ready .entry)) →
+        Stands n (columns (now (release .entry)) minutes due) (at (now (by .entry))) t rest r (now (ready .exit)) ×
+        Late n (columns (now (release .entry)) minutes due) (at (now (by .entry))) t r) ⌝ }
 {
     let mut next = from;
     while next < n {
@@ -164,7 +170,7 @@ fn advance(
 // Row i is taken: the desk moves to its end, the rows released by then are put into the set, and i is taken out of it.
 pub fn take(
     release: &[u32; Desk::PLACES],
-    length: &[u32; Desk::PLACES],
+    minutes: &[u32; Desk::PLACES],
     due: &[u32; Desk::PLACES],
     by: &[u32; Desk::PLACES],
     n: usize,
@@ -173,16 +179,19 @@ pub fn take(
     ready: &mut [u64; 5],
     i: usize,
 ) -> Moved
-    requires { ⌜ Limits (columns (now release) (now length) (now due)) ⌝ }
-    requires { ⌜ Tables n (columns (now release) (now length) (now due)) (at (now by)) × ((rest : List ℕ) × (count : ℕ) ×
-        Sits n (columns (now release) (now length) (now due)) (at (now by)) rest (record { desk = desk; count = count; next = next; ready = now ready }) × List·Memᴰ i rest) ⌝ }
+    requires { ⌜ Limits (columns (now release) (now minutes) (now due)) ⌝ }
+    requires { ⌜ Tables n (columns (now release) (now minutes) (now due)) (at (now by)) × ((rest : List ℕ) × (count : ℕ) ×
+        Sits n (columns (now release) (now minutes) (now due)) (at (now by)) rest
+        (record { desk = desk; count = count; next = next; ready = now ready }) × List·Memᴰ i rest) ⌝ }
     ensures { λ r. ⌜ ((rest : List ℕ) (count : ℕ) →
-        Sits n (columns (now (release .entry)) (now (length .entry)) (now (due .entry))) (at (now (by .entry))) rest (record { desk = desk; count = count; next = next; ready = now (ready .entry) }) →
+        Sits n (columns (now (release .entry)) (now (minutes .entry)) (now (due .entry))) (at (now (by .entry))) rest
+        (record { desk = desk; count = count; next = next; ready = now (ready .entry) }) →
         List·Memᴰ i rest →
-        Taken n (columns (now (release .entry)) (now (length .entry)) (now (due .entry))) (at (now (by .entry))) rest (record { desk = desk; count = count; next = next; ready = now (ready .entry) }) i
+        Taken n (columns (now (release .entry)) (now (minutes .entry)) (now (due .entry))) (at (now (by .entry))) rest
+        (record { desk = desk; count = count; next = next; ready = now (ready .entry) }) i
         (record { desk = r .desk; count = count + 1; next = r .next; ready = now (ready .exit) })) ⌝ }
 {
-    let after = desk.take(release[i], length[i], due[i]);
+    let after = desk.take(release[i], minutes[i], due[i]);
     let ahead = advance(release, by, n, ready, next, after.minute);
     away(ready, i);
     Moved {
@@ -198,8 +207,9 @@ pub fn start(
     n: usize,
     free: u32,
 ) -> Standing
-    requires { ⌜ ((length due : List ℕ) × Tables n (columns (now release) length due) (at (now by))) × EndsInTime free n ⌝ }
-    ensures { λ r. ⌜ ((length due : List ℕ) → Tables n (columns (now (release .entry)) length due) (at (now (by .entry))) → Sits n (columns (now (release .entry)) length due) (at (now (by .entry))) (countFrom 1 n) r) ×
+    requires { ⌜ ((minutes due : List ℕ) × Tables n (columns (now release) minutes due) (at (now by))) × EndsInTime free n ⌝ }
+    ensures { λ r. ⌜ ((minutes due : List ℕ) → Tables n (columns (now (release .entry)) minutes due) (at (now (by .entry))) →
+        Sits n (columns (now (release .entry)) minutes due) (at (now (by .entry))) (countFrom 1 n) r) ×
         (r .desk ≡ deskAt free) × (r .count ≡ 0) ⌝ }
 {
     let mut ready: [u64; 5] = [0; 5];

@@ -16,7 +16,7 @@ use Rattle.readers.specs.declared.Terms.{Terms}
 use Rattle.readers.specs.Reads.{readBy}
 use Rattle.readers.specs.Settled.{Settled}
 use Rattle.readers.specs.OneClass.{OfClass}
-use Rattle.calls.specs.Promise.{DayInRange, MemoryKept, CoverKept}
+use Rattle.calls.specs.CallsPromise.{DayInRange, MemoryKept, CoverKept}
 
 -- What the calls by the ordering rule are told: a book of which no two rows disagree, all its plans, and the orders that picks make.
 abbrev pub orderingRule : Terms

@@ -23,16 +23,18 @@ use Rattle.search.proofs.Signs.{late-lowers}
 use Rattle.listing.specs.declared.Front.{Front}
 use Rattle.listing.specs.Fronts.{held, Sized, HoldsPlans}
 use Rattle.listing.proofs.Fronts.{plans-sized, plans-held}
-use Rattle.arrival.specs.Answers.{OrderGiven}
+use Rattle.arrival.specs.Given.{OrderGiven}
 
 -- What is given by one name of a profile is given by the other.
-pub given-by : (job : ℕ → Job) (free : ℕ) (rows : List ℕ) (bound : ℕ) (profile same : Profile) → profile ≡ same → (b : List ℕ) (answer : Planned) (after : List ℕ) →
+pub given-by : (job : ℕ → Job) (free : ℕ) (rows : List ℕ) (bound : ℕ) (profile same : Profile) → profile ≡ same →
+    (b : List ℕ) (answer : Planned) (after : List ℕ) →
     OrderGiven job free (orderBy same job free rows (lowered bound)) bound b answer after →
     OrderGiven job free (orderBy profile job free rows (lowered bound)) bound b answer after
 given-by job free rows bound profile same e b answer after g =
     subst (λ (p : Profile). OrderGiven job free (orderBy p job free rows (lowered bound)) bound b answer after) (sym e) g
 
-module _ (profile : Profile) (job : ℕ → Job) (n free : ℕ) (limits : Limits job) (low : 1 ≤ n) (rule : Obeys profile job (countFrom 1 n)) where
+module _ (profile : Profile) (job : ℕ → Job) (n free : ℕ) (limits : Limits job) (low : 1 ≤ n)
+    (rule : Obeys profile job (countFrom 1 n)) where
   abbrev rows : List ℕ
   rows = countFrom 1 n
 
@@ -52,8 +54,13 @@ module _ (profile : Profile) (job : ℕ → Job) (n free : ℕ) (limits : Limits
   plan-lowers p m =
       let w = profiles-promised profile job free rows rule some-row in
       let u = w .1 .attains p (subst (List·Memᴰ p) (w .0) m) in
-      ap (λ (q : Pair). lowered (raised (q .late))) (sym (u .2 .1)) ∙ (order-lowers (p .late) (u .0) (u .1) ∙ ap (λ (q : Pair). q .late) (u .2 .1))
+      ap (λ (q : Pair). lowered (raised (q .late))) (sym (u .2 .1)) ∙
+      (order-lowers (p .late) (u .0) (u .1) ∙ ap (λ (q : Pair). q .late) (u .2 .1))
 
   -- and what the list holds are the plans.
-  pub list-held : n ≤ mostRows → (r : Front) → HoldsPlans (plansBy profile job free rows) n r → Sized r × (held r ≡ plansBy profile job free rows)
-  list-held small r h = (plans-sized (plansBy profile job free rows) n r small h, plans-held (plansBy profile job free rows) n r h plan-lowers)
+  pub list-held : n ≤ mostRows → (r : Front) → HoldsPlans (plansBy profile job free rows) n r → Sized r ×
+      (held r ≡ plansBy profile job free rows)
+  list-held small r h = (
+    plans-sized (plansBy profile job free rows) n r small h,
+    plans-held (plansBy profile job free rows) n r h plan-lowers,
+  )

@@ -4,17 +4,17 @@
 ghost use mathlib.Core.Path.{_≡_};
 ghost use mathlib.Core.List.{_++_, map};
 ghost use Prim.Native.Nat.{ℕ, _≤_, _<_};
-ghost use lib.ListN.{getD, take, drop};
+ghost use lib.ListN.{length, getD, take, drop};
 ghost use Rattle.schedule.specs.Limits.{EndsInTime, mostRows};
 ghost use Rattle.schedule.specs.Rows.{countFrom};
 ghost use Rattle.schedule.specs.Plans.{plans};
 ghost use Rattle.schedule.specs.Picks.{orderFor};
-ghost use Rattle.schedule.specs.Promise.{Agreeing};
+ghost use Rattle.schedule.specs.Cover.{Agreeing};
 ghost use Rattle.schedule.specs.Profiles.{Obeys, plansBy, orderBy};
 ghost use Rattle.schedule.specs.Offset.{lowered};
 ghost use Rattle.schedule.specs.Columns.{at, columns, Limits};
 ghost use Rattle.listing.specs.Fronts.{HoldsPlans};
-ghost use Rattle.arrival.specs.Answers.{OrderGiven, Followed};
+ghost use Rattle.arrival.specs.Given.{OrderGiven, Followed};
 use listing::Front;
 use listing::Planned;
 use schedule::Desk;
@@ -24,71 +24,74 @@ use schedule::Profile;
 pub fn list<'a>(
     profile: Profile,
     release: &'a [u32; Desk::PLACES],
-    length: &'a [u32; Desk::PLACES],
+    minutes: &'a [u32; Desk::PLACES],
     due: &'a [u32; Desk::PLACES],
     n: usize,
     free: u32,
 ) -> Front
-    requires { ⌜ Limits (columns (now release) (now length) (now due)) ⌝ }
-    requires { ⌜ (1 ≤ n) × (n ≤ mostRows) × EndsInTime free n × Obeys profile (columns (now release) (now length) (now due)) (countFrom 1 n) ⌝ }
-    ensures { λ r. ⌜ HoldsPlans (plansBy profile (columns (now (release .entry)) (now (length .entry)) (now (due .entry))) free (countFrom 1 n)) n r ⌝ }
+    requires { ⌜ Limits (columns (now release) (now minutes) (now due)) ⌝ }
+    requires { ⌜ (1 ≤ n) × (n ≤ mostRows) × EndsInTime free n ×
+        Obeys profile (columns (now release) (now minutes) (now due)) (countFrom 1 n) ⌝ }
+    ensures { λ r. ⌜ HoldsPlans (plansBy profile (columns (now (release .entry)) (now (minutes .entry)) (now (due .entry))) free
+        (countFrom 1 n)) n r ⌝ }
 {
     if let Profile::FirstCome = profile {
-        return arrival::list_by_arrival(release, length, due, n, free);
+        return arrival::list_by_arrival(release, minutes, due, n, free);
     }
-    list_by_rank(release, length, due, n, free)
+    list_by_rank(release, minutes, due, n, free)
 }
 
 // The order for a bound by the profile, written to the front of a lent buffer; a bound that is not kept leaves the buffer as it was.
 pub fn order_for<'a>(
     profile: Profile,
     release: &'a [u32; Desk::PLACES],
-    length: &'a [u32; Desk::PLACES],
+    minutes: &'a [u32; Desk::PLACES],
     due: &'a [u32; Desk::PLACES],
     n: usize,
     free: u32,
     bound: u32,
     out: &mut [u32],
 ) -> Planned
-    requires { ⌜ Limits (columns (now release) (now length) (now due)) ⌝ }
-    requires { ⌜ (1 ≤ n) × (n ≤ mostRows) × EndsInTime free n × (n ≤ lib.ListN.length (now out)) ⌝ }
-    ensures { λ r. ⌜ OrderGiven (columns (now (release .entry)) (now (length .entry)) (now (due .entry))) free
-        (orderBy profile (columns (now (release .entry)) (now (length .entry)) (now (due .entry))) free (countFrom 1 n) (lowered bound))
+    requires { ⌜ Limits (columns (now release) (now minutes) (now due)) ⌝ }
+    requires { ⌜ (1 ≤ n) × (n ≤ mostRows) × EndsInTime free n × (n ≤ length (now out)) ⌝ }
+    ensures { λ r. ⌜ OrderGiven (columns (now (release .entry)) (now (minutes .entry)) (now (due .entry))) free
+        (orderBy profile (columns (now (release .entry)) (now (minutes .entry)) (now (due .entry))) free (countFrom 1 n) (lowered bound))
         bound (now (out .entry)) r (now (out .exit)) ⌝ }
 {
     if let Profile::FirstCome = profile {
-        return arrival::order_by_arrival(release, length, due, n, free, bound, out);
+        return arrival::order_by_arrival(release, minutes, due, n, free, bound, out);
     }
-    order_by_rank(release, length, due, n, free, bound, out)
+    order_by_rank(release, minutes, due, n, free, bound, out)
 }
 
 // The desk after the rows of a posting in turn.
 pub fn follow<'a>(
     release: &'a [u32; Desk::PLACES],
-    length: &'a [u32; Desk::PLACES],
+    minutes: &'a [u32; Desk::PLACES],
     due: &'a [u32; Desk::PLACES],
     free: u32,
     posting: &[u32],
 ) -> Desk
-    requires { ⌜ Limits (columns (now release) (now length) (now due)) ⌝ }
-    requires { ⌜ EndsInTime free (lib.ListN.length (now posting)) × (lib.ListN.length (now posting) ≤ mostRows) ×
+    requires { ⌜ Limits (columns (now release) (now minutes) (now due)) ⌝ }
+    requires { ⌜ EndsInTime free (length (now posting)) × (length (now posting) ≤ mostRows) ×
         ((k : ℕ) → getD (now posting) k 0 ≤ mostRows) ⌝ }
-    ensures { λ r. ⌜ Followed (columns (now (release .entry)) (now (length .entry)) (now (due .entry))) free (now (posting .entry)) r ⌝ }
+    ensures { λ r. ⌜ Followed (columns (now (release .entry)) (now (minutes .entry)) (now (due .entry))) free (now (posting .entry)) r ⌝ }
 {
-    arrival::follow(release, length, due, free, posting)
+    arrival::follow(release, minutes, due, free, posting)
 }
 
 // The list by the ordering rule: every plan.
 fn list_by_rank<'a>(
     release: &'a [u32; Desk::PLACES],
-    length: &'a [u32; Desk::PLACES],
+    minutes: &'a [u32; Desk::PLACES],
     due: &'a [u32; Desk::PLACES],
     n: usize,
     free: u32,
 ) -> Front
-    requires { ⌜ Limits (columns (now release) (now length) (now due)) ⌝ }
-    requires { ⌜ (1 ≤ n) × (n ≤ mostRows) × EndsInTime free n × Agreeing (columns (now release) (now length) (now due)) (countFrom 1 n) ⌝ }
-    ensures { λ r. ⌜ HoldsPlans (plans (columns (now (release .entry)) (now (length .entry)) (now (due .entry))) free (countFrom 1 n)) n r ⌝ }
+    requires { ⌜ Limits (columns (now release) (now minutes) (now due)) ⌝ }
+    requires { ⌜ (1 ≤ n) × (n ≤ mostRows) × EndsInTime free n × Agreeing (columns (now release) (now minutes) (now due)) (countFrom 1 n) ⌝ }
+    ensures { λ r. ⌜ HoldsPlans (plans (columns (now (release .entry)) (now (minutes .entry)) (now (due .entry))) free (countFrom 1 n)) n
+        r ⌝ }
 {
     let mut rows: [u32; Desk::PLACES] = [0; Desk::PLACES];
     let mut releases: [u32; Desk::PLACES] = [0; Desk::PLACES];
@@ -97,7 +100,7 @@ fn list_by_rank<'a>(
     let mut by: [u32; Desk::PLACES] = [0; Desk::PLACES];
     ranks::tables(
         release,
-        length,
+        minutes,
         due,
         n,
         &mut rows,
@@ -112,17 +115,17 @@ fn list_by_rank<'a>(
 // The order for a bound by the ordering rule.
 fn order_by_rank<'a>(
     release: &'a [u32; Desk::PLACES],
-    length: &'a [u32; Desk::PLACES],
+    minutes: &'a [u32; Desk::PLACES],
     due: &'a [u32; Desk::PLACES],
     n: usize,
     free: u32,
     bound: u32,
     out: &mut [u32],
 ) -> Planned
-    requires { ⌜ Limits (columns (now release) (now length) (now due)) ⌝ }
-    requires { ⌜ (1 ≤ n) × (n ≤ mostRows) × EndsInTime free n × (n ≤ lib.ListN.length (now out)) ⌝ }
-    ensures { λ r. ⌜ OrderGiven (columns (now (release .entry)) (now (length .entry)) (now (due .entry))) free
-        (orderFor (columns (now (release .entry)) (now (length .entry)) (now (due .entry))) free (countFrom 1 n) (lowered bound))
+    requires { ⌜ Limits (columns (now release) (now minutes) (now due)) ⌝ }
+    requires { ⌜ (1 ≤ n) × (n ≤ mostRows) × EndsInTime free n × (n ≤ length (now out)) ⌝ }
+    ensures { λ r. ⌜ OrderGiven (columns (now (release .entry)) (now (minutes .entry)) (now (due .entry))) free
+        (orderFor (columns (now (release .entry)) (now (minutes .entry)) (now (due .entry))) free (countFrom 1 n) (lowered bound))
         bound (now (out .entry)) r (now (out .exit)) ⌝ }
 {
     let mut rows: [u32; Desk::PLACES] = [0; Desk::PLACES];
@@ -132,7 +135,7 @@ fn order_by_rank<'a>(
     let mut by: [u32; Desk::PLACES] = [0; Desk::PLACES];
     ranks::tables(
         release,
-        length,
+        minutes,
         due,
         n,
         &mut rows,
@@ -152,7 +155,8 @@ fn order_by_rank<'a>(
 
 // The rows of the first k ranks of an order, into a lent buffer.
 fn write_order(order: &[u32; Desk::ROWS], rows: &[u32; Desk::PLACES], k: usize, out: &mut [u32])
-    requires { ⌜ (k ≤ mostRows) × (k ≤ lib.ListN.length (now out)) × (lib.ListN.length (now order) ≡ mostRows) × ((i : ℕ) → i < k → at (now order) i ≤ mostRows) ⌝ }
+    requires { ⌜ (k ≤ mostRows) × (k ≤ length (now out)) × (length (now order) ≡ mostRows) ×
+        ((i : ℕ) → i < k → at (now order) i ≤ mostRows) ⌝ }
     ensures { λ _. ⌜ now (out .exit) ≡ map (at (now (rows .entry))) (take k (now (order .entry))) ++ drop k (now (out .entry)) ⌝ }
 {
     let mut i = 0;

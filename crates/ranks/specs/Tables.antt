@@ -22,10 +22,10 @@ pub record Filled (size : ℕ) (place what : ℕ → ℕ) (k : ℕ) (table : Lis
 abbrev pub from : ℕ → ℕ → ℕ
 from first m = m + first
 
--- The tables of the rows 1 to n in the columns `release`, `length₀` and `due₀`.
-pub record Tabled (n : ℕ) (release length₀ due₀ rows releases lengths dues by : List ℕ) : Type 0 where
-  pub by-rank : ByRank n (columns release length₀ due₀) (at rows)
+-- The tables of the rows 1 to n in the columns `release`, `minutes` and `due`.
+pub record Tabled (n : ℕ) (release minutes due rows releases lengths dues by : List ℕ) : Type 0 where
+  pub by-rank : ByRank n (columns release minutes due) (at rows)
   pub releases-ranked : Ranked n rows release releases
-  pub lengths-ranked : Ranked n rows length₀ lengths
-  pub dues-ranked : Ranked n rows due₀ dues
-  pub by-release : (length due : List ℕ) → ByRelease n (columns releases length due) (at by)
+  pub lengths-ranked : Ranked n rows minutes lengths
+  pub dues-ranked : Ranked n rows due dues
+  pub by-release : (any-minutes any-due : List ℕ) → ByRelease n (columns releases any-minutes any-due) (at by)

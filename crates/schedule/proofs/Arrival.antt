@@ -19,7 +19,7 @@ use Rattle.theory.specs.Arrival.{ByArrival as JobsByArrival}
 use Rattle.schedule.specs.Rows.{countFrom}
 use Rattle.schedule.specs.Desk.{Pair, OrderOf, endOf, pairOf}
 use Rattle.schedule.specs.Plans.{beats, attained, plans}
-use Rattle.schedule.specs.Promise.{Promise}
+use Rattle.schedule.specs.Cover.{PlansPromise}
 use Rattle.schedule.specs.Arrival.{Uncrossed, comesBefore, placedByArrival, byArrival, arrivalFor, ArrivalPromised}
 use Rattle.schedule.specs.Columns.{at}
 use Rattle.schedule.specs.Ranks.{ByArrival}
@@ -35,7 +35,7 @@ use Rattle.schedule.proofs.Beats.{NoWorse, beats-worse, unbeaten-worse,
 use Rattle.schedule.proofs.Front.{plans-sound, plans-complete, plans-rising, rising-unique}
 use Rattle.schedule.proofs.Best.{order-pair, pair-order}
 use Rattle.schedule.proofs.Listing.{some-plan}
-use Rattle.schedule.proofs.Promise.{tried, whole, signed, rises, listed, covers}
+use Rattle.schedule.proofs.Cover.{tried, whole, signed, rises, listed, covers}
 
 -- Rows by arrival are the same rows, and each comes before all after it or is one of them.
 module _ (job : ℕ → Job) where
@@ -167,7 +167,7 @@ module _ (job : ℕ → Job) (t : ℕ) (left : List ℕ) (uncrossed : Uncrossed 
   through : {y : ℤ} (order : List ℕ) → OrderOf left order → pairOf job t order .late ≤ℤ y → pair₁ .late ≤ℤ y
   through {y} order o k = signed (omega (arith, no-worse order o .1, leZ→ (pairOf job t order .late) y (k .le)))
 
-  holds : Promise job t left (arrivalFor job t left)
+  holds : PlansPromise job t left (arrivalFor job t left)
   holds = record {
     best = λ y order e. let k = for-kept y order e in
         subst (λ (o : List ℕ). OrderOf left o × (pairOf job t o .late ≤ℤ y) × ((other : List ℕ) → OrderOf left other → pairOf job t other .late ≤ℤ y → endOf job t o ≤ endOf job t other))

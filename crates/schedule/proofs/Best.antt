@@ -15,7 +15,7 @@ use Rattle.theory.specs.Ends.{EndsAt, for-end}
 use Rattle.schedule.specs.Desk.{Pair, endOf, pairOf, keeps}
 use Rattle.schedule.specs.Picks.{orderFor}
 use Rattle.schedule.specs.Plans.{ordersOf, attained}
-use Rattle.schedule.specs.Promise.{Agreeing}
+use Rattle.schedule.specs.Cover.{Agreeing}
 use Rattle.schedule.proofs.Orders.{orders-length, takes-orders}
 use Rattle.schedule.proofs.DeskLaws.{keeps-late, late-keeps}
 use Rattle.schedule.proofs.JobsOf.{jobs, jobs-end, on-jobs, jobs-order, keeps-kept, kept-keeps}

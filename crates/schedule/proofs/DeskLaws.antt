@@ -11,7 +11,7 @@ use lib.IntN.{ℤ}
 use lib.Signed.{leZ}
 use Rattle.theory.specs.Jobs.{Job, finish}
 use Rattle.schedule.specs.Desk.{maxZ, worstOf, atMost, endOf, idleOf, lengthsOf, latenesses, pairOf, keeps}
-use Rattle.schedule.specs.Promise.{IdleSum}
+use Rattle.schedule.specs.Cover.{IdleSum}
 use Rattle.schedule.proofs.Signed.{_≼_, leZ→, →leZ, leZ-trans, leZ-total}
 use Rattle.schedule.proofs.Tests.{both, parts}
 

@@ -1,7 +1,7 @@
 pub mod Tests
 pub mod Sorted
 pub mod Signed
-pub mod Words
+pub mod SignedWords
 pub mod DeskLaws
 pub mod Orders
 pub mod Numbers
@@ -15,7 +15,7 @@ pub mod Search
 pub mod Best
 pub mod Listing
 pub mod Loop
-pub mod Promise
+pub mod Cover
 pub mod Arrival
 pub mod Profiles
 pub mod Ranges

@@ -16,7 +16,7 @@ use Rattle.theory.specs.Ends.{endAt}
 use Rattle.schedule.specs.Desk.{Pair, pairOf, keeps}
 use Rattle.schedule.specs.Picks.{orderFor}
 use Rattle.schedule.specs.Plans.{attained, plans, aheadOf, listFrom, listByBounds}
-use Rattle.schedule.specs.Promise.{Fits32}
+use Rattle.schedule.specs.Cover.{Fits32}
 use Rattle.schedule.proofs.Signed.{up, down, _≼_, _≺_, leZ→, pred-level}
 use Rattle.schedule.proofs.Orders.{perm-orders, orders-perm}
 use Rattle.schedule.proofs.Beats.{NoWorse, unbeaten-worse, alike}

@@ -13,7 +13,7 @@ use Rattle.theory.specs.Jobs.{Job}
 use Rattle.schedule.specs.Desk.{Pair, pairOf}
 use Rattle.schedule.specs.Picks.{orderFor}
 use Rattle.schedule.specs.Plans.{attained, plans, aheadOf, listFrom}
-use Rattle.schedule.specs.Promise.{Fits32}
+use Rattle.schedule.specs.Cover.{Fits32}
 use Rattle.schedule.proofs.Signed.{up, down, _≼_, pred-level}
 use Rattle.schedule.proofs.Orders.{perm-orders}
 use Rattle.schedule.proofs.Front.{rising-unique}

@@ -4,7 +4,7 @@ use mathlib.Core.Path.{refl, sym}
 use Rattle.schedule.specs.declared.Profile.the-variants.{Ordering, FirstCome}
 use Rattle.schedule.specs.Arrival.{ArrivalPromise}
 use Rattle.schedule.specs.Profiles.{ProfilesPromised, plansBy, orderBy}
-use Rattle.schedule.proofs.Promise.{promised}
+use Rattle.schedule.proofs.Cover.{promised}
 use Rattle.schedule.proofs.Arrival.{arrival-promised}
 
 pub profiles-promised : ProfilesPromised

@@ -11,7 +11,7 @@ use lib.IntN.{ℤ, pos, negsuc, subℕ}
 use lib.Signed.{leZ}
 use Rattle.theory.specs.Jobs.{Job, finish}
 use Rattle.schedule.specs.Desk.{lateness, latenesses, atMost, keeps, endOf, pairOf}
-use Rattle.schedule.specs.Promise.{Fits32}
+use Rattle.schedule.specs.Cover.{Fits32}
 use Rattle.schedule.specs.Ranges.{Ranged, InRange}
 use Rattle.schedule.proofs.Signed.{_≼_, leZ→, →leZ, sub-level}
 use Rattle.schedule.proofs.Tests.{both, parts}

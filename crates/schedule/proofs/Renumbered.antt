@@ -14,7 +14,7 @@ use Rattle.schedule.specs.Rows.{countFrom, withoutAll}
 use Rattle.schedule.specs.Desk.{atMost, lateness, endOf, latenesses, pairOf, keeps}
 use Rattle.schedule.specs.Picks.{ahead, joined, earliestEnd, outranks, firstPick, secondPick, decided, run, block, blockOne, blockTwo, blocksFor, orderFor}
 use Rattle.schedule.specs.Plans.{plans, listFrom, listByBounds}
-use Rattle.schedule.specs.Promise.{Agreeing, Fits32}
+use Rattle.schedule.specs.Cover.{Agreeing, Fits32}
 use Rattle.schedule.specs.Ranks.{ByRank, InRank}
 use Rattle.schedule.proofs.Tests.{neither, is-false}
 use Rattle.schedule.proofs.Orders.{Takes, takes-mem}
@@ -22,7 +22,7 @@ use Rattle.schedule.proofs.Numbers.{length-count}
 use Rattle.schedule.proofs.Search.{Halted, ran, FoundOrder, Found, block-is, blocks-one, blocks-two, blocks-none, order-found}
 use Rattle.schedule.proofs.Matches.{Rank, Matches, row-in, match-left, match-all}
 use Rattle.schedule.proofs.RankPicks.{Renumbers, rank-ties, job-of, Picked, first-picked, second-picked, same-run, same-block}
-use Rattle.schedule.proofs.Promise.{same-list}
+use Rattle.schedule.proofs.Cover.{same-list}
 
 -- The order for a bound, by whether its run keeps the bound.
 module _ (job : ℕ → Job) (t : ℕ) (left : List ℕ) (y : ℤ) where

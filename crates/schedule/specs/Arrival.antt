@@ -1,5 +1,5 @@
 -- First come, first due: rows of which no two cross, and their one plan, by release, then due, then row.
--- `job` says of each row number what planning sees of the row, t is the desk's minute, `left` the rows. Rests on: Desk, Picks, Plans, Promise.
+-- `job` says of each row number what planning sees of the row, t is the desk's minute, `left` the rows. Rests on: Desk, Picks, Plans, Cover.
 -- The proof is `arrival-promised`, in proofs/Arrival.antt.
 use Prim.Native.Nat.{ℕ, compare, _≤_, _<_}
 use mathlib.Core.Bool.{Bool, cond}
@@ -14,7 +14,7 @@ use Rattle.theory.specs.Jobs.{Job}
 use Rattle.schedule.specs.Desk.{OrderOf, pairOf, endOf}
 use Rattle.schedule.specs.Picks.{ahead}
 use Rattle.schedule.specs.Plans.{plans}
-use Rattle.schedule.specs.Promise.{Promise}
+use Rattle.schedule.specs.Cover.{PlansPromise}
 
 -- No two rows cross: none has both a smaller release and a larger due than another.
 abbrev pub Uncrossed : (ℕ → Job) → List ℕ → Type 0
@@ -48,7 +48,7 @@ module _ (job : ℕ → Job) (t : ℕ) (left : List ℕ) where
     -- So the list, the pairs that some order attains and none beats, is its pair alone ..
     pub one-plan : plans job t left ≡ pairOf job t (byArrival job left) ∷ []
     -- .. and property 3 holds with it as the order for each bound that it keeps.
-    pub promise : Promise job t left (arrivalFor job t left)
+    pub promise : PlansPromise job t left (arrivalFor job t left)
 
 -- So it is for rows that do not cross, from any minute on. (Of no rows at all there is one plan, of the empty order: so at least one row.)
 abbrev pub ArrivalPromised : Type 0

@@ -3,7 +3,7 @@ pub mod Rows
 pub mod Desk
 pub mod Picks
 pub mod Plans
-pub mod Promise
+pub mod Cover
 pub mod Arrival
 pub mod Profiles
 pub mod Ranges

@@ -1,5 +1,5 @@
 -- The profiles: what each asks of the rows, its list of plans, and its order for a bound.
--- `job` says of each row number what planning sees of the row, t is the desk's minute, `left` the rows. Rests on: Picks, Plans, Promise, Arrival.
+-- `job` says of each row number what planning sees of the row, t is the desk's minute, `left` the rows. Rests on: Picks, Plans, Cover, Arrival.
 -- The proof of `ProfilesPromised` is `profiles-promised`, in proofs/Profiles.antt.
 use Prim.Native.Nat.{ℕ, _<_}
 use mathlib.Core.Path.{_≡_}
@@ -13,7 +13,7 @@ use Rattle.schedule.specs.declared.Profile.the-variants.{Ordering, First
 use Rattle.schedule.specs.Desk.{Pair, pairOf}
 use Rattle.schedule.specs.Picks.{orderFor}
 use Rattle.schedule.specs.Plans.{plans}
-use Rattle.schedule.specs.Promise.{Agreeing, Promise}
+use Rattle.schedule.specs.Cover.{Agreeing, PlansPromise}
 use Rattle.schedule.specs.Arrival.{Uncrossed, byArrival, arrivalFor}
 
 -- The rows keep the profile's rule: no two disagree, or no two cross.
@@ -35,7 +35,7 @@ orderBy FirstCome job t left y = arrivalFor job t left y
 -- order beats; and property 3 holds with its orders.
 abbrev pub ProfilesPromised : Type 0
 ProfilesPromised = (profile : Profile) (job : ℕ → Job) (t : ℕ) (left : List ℕ) → Obeys profile job left → 0 < length left →
-    (plansBy profile job t left ≡ plans job t left) × Promise job t left (orderBy profile job t left)
+    (plansBy profile job t left ≡ plans job t left) × PlansPromise job t left (orderBy profile job t left)
 
 -- Opens every definition of this file: name it on an `unfolding` line where all is to be computed.
 unfoldable pub openProfiles : Unit {0}

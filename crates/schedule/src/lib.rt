@@ -60,11 +60,11 @@ impl Desk {
     }
 
     // The desk after a row: it starts at the later of the minute and its release, ends its length later, and is late by end minus due.
-    pub fn take(self, release: u32, length: u32, due: u32) -> Desk
-        requires { ⌜ (self .minute ≤ 1000000000) × (release ≤ 1000000000) × (length ≤ 1000000000) × (due ≤ 2147483647) ⌝ }
-        ensures { λ r. ⌜ r ≡ deskAfter self (record { release = release; length = length; due = due }) ⌝ }
+    pub fn take(self, release: u32, minutes: u32, due: u32) -> Desk
+        requires { ⌜ (self .minute ≤ 1000000000) × (release ≤ 1000000000) × (minutes ≤ 1000000000) × (due ≤ 2147483647) ⌝ }
+        ensures { λ r. ⌜ r ≡ deskAfter self (record { release = release; length = minutes; due = due }) ⌝ }
     {
-        let end = later(self.minute, release) + length;
+        let end = later(self.minute, release) + minutes;
         let late = end + 2_147_483_648 - due;
         Desk {
             minute: end,

@@ -36,18 +36,28 @@ module _ (n : ℕ) (job : ℕ → Job) (by : ℕ → ℕ) (bound : ℕ) (rest : 
     places = q .places;
   }
 
-  module _ (order : List ℕ) (i : ℕ) (first : i ≡ firstPick job now rest) (one : Standing) (between : List ℕ) (b : (s .count < one .count) × Ran n job by bound rest s (block job i now rest) order one between) where
+  module _ (order : List ℕ) (i : ℕ) (first : i ≡ firstPick job now rest) (one : Standing) (between : List ℕ)
+      (b : (s .count < one .count) × Ran n job by bound rest s (block job i now rest) order one between) where
     abbrev q : Ran n job by bound rest s (block job i now rest) order one between
     q = b .1
 
     pub stepped-one : one .desk .worst ≤ bound → Stepped n job by bound rest s order (record { second = false; after = one }) between
-    stepped-one h = record { one = λ e. (h, one-ran i first order one between q); two = λ e. apart e; counts = (b .0, q .counts .1); places = q .places }
+    stepped-one h = record {
+      one = λ e. (h, one-ran i first order one between q);
+      two = λ e. apart e;
+      counts = (b .0, q .counts .1);
+      places = q .places;
+    }
 
     pub stepped-two : bound < one .desk .worst → (j : ℕ) → j ≡ secondPick job now rest → (two : Standing) (after : List ℕ) →
-        (s .count < two .count) × Ran n job by bound rest s (block job j now rest) between two after → Stepped n job by bound rest s order (record { second = true; after = two }) after
+        (s .count < two .count) × Ran n job by bound rest s (block job j now rest) between two after →
+        Stepped n job by bound rest s order (record { second = true; after = two }) after
     stepped-two h j second two after t = record {
       one = λ e. apart (sym e);
-      two = λ e. (one-ran i first order one between q .over h, ran-again (blockTwo job now rest) order between two after (q .before) (two-ran j second between two after (t .1)));
+      two = λ e. (
+        one-ran i first order one between q .over h,
+        ran-again (blockTwo job now rest) order between two after (q .before) (two-ran j second between two after (t .1)),
+      );
       counts = (t .0, t .1 .counts .1);
       places = t .1 .places;
     }

@@ -44,7 +44,8 @@ module _ (job : ℕ → Job) (t : ℕ) where
   decided-is (i ∷ is) k m p =
       let f = firstPick job t (i ∷ is) in
       ap (λ (b : Bool). b || leb (job f .due) (job (secondPick job t (i ∷ is)) .due))
-      (none-other (length (i ∷ is)) (without f (i ∷ is)) (λ k m. p k (mem-without f (i ∷ is) m)) (length-without f (i ∷ is) (pick-mem i is)))
+      (none-other (length (i ∷ is)) (without f (i ∷ is)) (λ k m. p k (mem-without f (i ∷ is) m))
+      (length-without f (i ∷ is) (pick-mem i is)))
 
 module _ (n : ℕ) (job : ℕ → Job) (by : ℕ → ℕ) (tables : Tables n job by) (rest : List ℕ) (s : Standing) (sits : Sits n job by rest s) where
   abbrev now : ℕ
@@ -60,7 +61,8 @@ module _ (n : ℕ) (job : ℕ → Job) (by : ℕ → ℕ) (tables : Tables n job
   no-row : (js : List ℕ) → js ≡ rest → firstPick job now js ≡ 0 → js ≡ []
   no-row [] e z = refl
   no-row (j ∷ js) e z =
-      let m : List·Memᴰ (firstPick job now (j ∷ js)) rest = subst (λ (l : List ℕ). List·Memᴰ (firstPick job now (j ∷ js)) l) e (pick-mem job now j js) in
+      let m : List·Memᴰ (firstPick job now (j ∷ js)) rest = subst (λ (l : List ℕ). List·Memᴰ (firstPick job now (j ∷ js)) l) e
+      (pick-mem job now j js) in
       let b : ⊥ = omega (arith, row-high (firstPick job now (j ∷ js)) m .0) in
       absurd b
 
@@ -107,4 +109,5 @@ module _ (n : ℕ) (job : ℕ → Job) (by : ℕ → ℕ) (tables : Tables n job
       pub torn-second : j ≡ 0 → ⊥
       torn-second z =
           eqb-false j 0
-          (neither (eqb j 0) (leb (job i .due) (job j .due)) (deciding (eqb j 0 || leb (job i .due) (job j .due)) refl torn-first ∙ torn) .0) z
+          (neither (eqb j 0) (leb (job i .due) (job j .due))
+          (deciding (eqb j 0 || leb (job i .due) (job j .due)) refl torn-first ∙ torn) .0) z

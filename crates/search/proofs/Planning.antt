@@ -16,7 +16,7 @@ use Rattle.schedule.specs.Offset.{deskAt}
 use Rattle.picks.specs.declared.Standing.{Standing}
 use Rattle.search.specs.declared.Block.{Block}
 use Rattle.search.specs.Taking.{deskThrough, Stuck, Ran, Stepped}
-use Rattle.search.specs.Answers.{orderAtRaised, Searched}
+use Rattle.search.specs.Searched.{orderAtRaised, Searched}
 use Rattle.search.specs.Ways.{Way}
 use Rattle.search.proofs.Ways.{way-done}
 use Rattle.search.proofs.Searches.{stuck-torn, went-first, went-next}
@@ -45,7 +45,8 @@ module _ (n : ℕ) (job : ℕ → Job) (by : ℕ → ℕ) (limits : Limits job) 
             let m = w .kept k in
             record {
               rest = rest;
-              way = subst (λ (done : List ℕ). Way n job by free bound done rest r) (sym (m .2 ∙ ap (λ (j : ℕ). take j order ++ run job free (countFrom 1 n)) c)) (m .0);
+              way = subst (λ (done : List ℕ). Way n job by free bound done rest r)
+                  (sym (m .2 ∙ ap (λ (j : ℕ). take j order ++ run job free (countFrom 1 n)) c)) (m .0);
               stuck = m .1 .stuck;
             };
         over = w .over;
@@ -63,7 +64,8 @@ module _ (n : ℕ) (job : ℕ → Job) (by : ℕ → ℕ) (limits : Limits job) 
       pub searched-kept : n ≤ mostRows → s .count ≡ n → Searched job n free bound s order
       searched-kept few e = record {
         kept = λ k. (
-          way-done job limits n by free bound (take (s .count) order) (here .rest) s (here .way) e low ∙ ap (λ (m : ℕ). some (take m order)) e,
+          way-done job limits n by free bound (take (s .count) order) (here .rest) s (here .way) e low ∙
+              ap (λ (m : ℕ). some (take m order)) e,
           here .way .desk ∙ ap (λ (m : ℕ). deskThrough job (deskAt free) (take m order)) e,
           omega (arith, here .way .sits .lates),
         );
@@ -75,16 +77,19 @@ module _ (n : ℕ) (job : ℕ → Job) (by : ℕ → ℕ) (limits : Limits job) 
         pub planning-torn : decided job (s .desk .minute) (here .rest) ≡ false
         planning-torn = stuck-torn n job by (here .rest) s (here .way .sits) (here .stuck) more
 
-        pub planning-next : (b : Block) (after : List ℕ) → Stepped n job by bound (here .rest) s order b after → Planning n job by free bound after (b .after)
+        pub planning-next : (b : Block) (after : List ℕ) → Stepped n job by bound (here .rest) s order b after →
+            Planning n job by free bound after (b .after)
         planning-next b after q =
             let o = cond (b .second) (blockTwo job (s .desk .minute) (here .rest)) (blockOne job (s .desk .minute) (here .rest)) in
-            let w = went-next n job by limits free bound (take (s .count) order) (here .rest) s (here .way) planning-torn low order b after q .0 in
+            let w = went-next n job by limits free bound (take (s .count) order) (here .rest) s
+            (here .way) planning-torn low order b after q .0 in
             record {
               kept = λ k.
                   let m = w .kept k in
                   record {
                     rest = withoutAll o (here .rest);
-                    way = subst (λ (done : List ℕ). Way n job by free bound done (withoutAll o (here .rest)) (b .after)) (sym (m .2)) (m .0);
+                    way = subst (λ (done : List ℕ). Way n job by free bound done (withoutAll o (here .rest)) (b .after)) (sym (m .2))
+                        (m .0);
                     stuck = m .1 .stuck;
                   };
               over = w .over;

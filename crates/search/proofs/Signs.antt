@@ -1,4 +1,5 @@
--- Raised latenesses and signed ones: the desk's worst lateness is within a raised bound exactly where every lateness is within the signed one.
+-- Raised latenesses and signed ones: the desk's worst lateness is within a raised bound exactly where every lateness is within the
+-- signed one.
 -- Assumes nothing.
 use Prim.Native.Nat.{ℕ, _+_, _-_, _≤_, _<_, max}
 use native.Mathlib.Omega.{arith}
@@ -14,14 +15,15 @@ use Rattle.theory.specs.Jobs.{Job, finish}
 use Rattle.schedule.specs.declared.Desk.{Desk}
 use Rattle.schedule.specs.Desk.{maxZ, worstOf, atMost, latenesses, endOf, keeps, pairOf}
 use Rattle.schedule.specs.Offset.{raised, lowered, deskAt, deskAfter}
-use Rattle.schedule.proofs.Words.{raised-lowered}
+use Rattle.schedule.proofs.SignedWords.{raised-lowered}
 use Rattle.schedule.proofs.Signed.{leZ→, →leZ, ltZ→, →ltZ, level, sub-level, pred-level}
 use Rattle.schedule.specs.Columns.{Limits}
 use Rattle.search.specs.Taking.{deskThrough}
 
 -- The bound one below.
 pub lowered-pred : (n : ℕ) → 1 ≤ n → lowered (n - 1) ≡ predℤ (lowered n)
-lowered-pred n h = level (lowered (n - 1)) (predℤ (lowered n)) (omega (arith, sub-level (n - 1) 2147483648, sub-level n 2147483648, pred-level (lowered n)))
+lowered-pred n h = level (lowered (n - 1)) (predℤ (lowered n))
+    (omega (arith, sub-level (n - 1) 2147483648, sub-level n 2147483648, pred-level (lowered n)))
 
 -- Two tests that hold together are one.
 one-test : (s t : Bool) → (T s → T t) → (T t → T s) → s ≡ t
@@ -45,10 +47,12 @@ lowered-lt a b =
 
 -- A raised lateness, lowered; and the test of one.
 late-lowered : (end due : ℕ) → due ≤ 2147483648 → lowered (end + 2147483648 - due) ≡ subℕ end due
-late-lowered end due h = level (lowered (end + 2147483648 - due)) (subℕ end due) (omega (arith, sub-level (end + 2147483648 - due) 2147483648, sub-level end due))
+late-lowered end due h = level (lowered (end + 2147483648 - due)) (subℕ end due)
+    (omega (arith, sub-level (end + 2147483648 - due) 2147483648, sub-level end due))
 
 late-within : (end due bound : ℕ) → due ≤ 2147483648 → leb (end + 2147483648 - due) bound ≡ leZ (subℕ end due) (lowered bound)
-late-within end due bound h = sym (lowered-le (end + 2147483648 - due) bound) ∙ ap (λ (z : ℤ). leZ z (lowered bound)) (late-lowered end due h)
+late-within end due bound h = sym (lowered-le (end + 2147483648 - due) bound) ∙
+    ap (λ (z : ℤ). leZ z (lowered bound)) (late-lowered end due h)
 
 max-lowered : (a b : ℕ) → lowered (max a b) ≡ maxZ (lowered a) (lowered b)
 unfolding maxZ
@@ -95,7 +99,8 @@ module _ (job : ℕ → Job) where
 
   module _ (limits : Limits job) where
     -- The desk's worst lateness after an order is within a bound exactly where it was before and the order keeps the bound.
-    pub through-within : (bound : ℕ) (d : Desk) (o : List ℕ) → leb (deskThrough job d o .worst) bound ≡ (leb (d .worst) bound && keeps job (lowered bound) (d .minute) o)
+    pub through-within : (bound : ℕ) (d : Desk) (o : List ℕ) →
+        leb (deskThrough job d o .worst) bound ≡ (leb (d .worst) bound && keeps job (lowered bound) (d .minute) o)
     unfolding deskThrough atMost latenesses
     through-within bound d [] = and-true (leb (d .worst) bound)
     through-within bound d (i ∷ is) =
@@ -136,13 +141,15 @@ module _ (job : ℕ → Job) where
         ap lowered m ∙ late-lowered (finish (job i) t) (job i .due) (omega (arith, limits .dues i))
     worst-lowered t i (j ∷ js) =
         max-lowered (finish (job i) t + 2147483648 - job i .due) (raisedWorst (finish (job i) t) (j ∷ js)) ∙
-        (λ x. maxZ (late-lowered (finish (job i) t) (job i .due) (omega (arith, limits .dues i)) x) (worst-lowered (finish (job i) t) j js x))
+        (λ x. maxZ (late-lowered (finish (job i) t) (job i .due) (omega (arith, limits .dues i)) x)
+        (worst-lowered (finish (job i) t) j js x))
 
     -- The pair of an order of at least one row, from a desk with nothing done yet.
     pub followed-late : (free : ℕ) (o : List ℕ) → 1 ≤ length o → lowered (deskThrough job (deskAt free) o .worst) ≡ pairOf job free o .late
     followed-late free [] h = let z : ⊥ = omega arith in absurd z
     followed-late free (i ∷ is) h =
-        let w : deskThrough job (deskAt free) (i ∷ is) .worst ≡ raisedWorst free (i ∷ is) = omega (arith, through-worst (deskAt free) (i ∷ is)) in
+        let w : deskThrough job (deskAt free) (i ∷ is) .worst ≡ raisedWorst free (i ∷ is) = omega
+        (arith, through-worst (deskAt free) (i ∷ is)) in
         ap lowered w ∙ worst-lowered free i is
 
     pub followed-raised : (free : ℕ) (o : List ℕ) → 1 ≤ length o → deskThrough job (deskAt free) o .worst ≡ raised (pairOf job free o .late)

@@ -29,7 +29,8 @@ without-append (i ∷ is) b left = without-append is b (without i left)
 
 -- One row more of the order so far.
 order-more : (order done : List ℕ) (k i : ℕ) → k < length order → take k order ≡ done → take (k + 1) (set order k i) ≡ done ++ (i ∷ [])
-order-more order done k i h e = ap (λ (m : ℕ). take m (set order k i)) (add-one k) ∙ (take-suc-set order k i h ∙ ap (λ (l : List ℕ). l ++ (i ∷ [])) e)
+order-more order done k i h e = ap (λ (m : ℕ). take m (set order k i)) (add-one k) ∙
+    (take-suc-set order k i h ∙ ap (λ (l : List ℕ). l ++ (i ∷ [])) e)
 
 module _ (n : ℕ) (job : ℕ → Job) (by : ℕ → ℕ) where
   -- From the desk b with the rows `all` left over the rows `taken` are taken; the run from the desk s is what is left of the run from b.
@@ -43,7 +44,8 @@ module _ (n : ℕ) (job : ℕ → Job) (by : ℕ → ℕ) where
     pub before : take (b .count) order ≡ take (b .count) order₀
     pub places : length order ≡ mostRows
 
-  pub toward-first : (all : List ℕ) (b : Standing) (order : List ℕ) → Sits n job by all b → length order ≡ mostRows → Toward all b order b order
+  pub toward-first : (all : List ℕ) (b : Standing) (order : List ℕ) → Sits n job by all b → length order ≡ mostRows →
+      Toward all b order b order
   unfolding withoutAll deskThrough
   toward-first all b order g l = record {
     taken = [];
@@ -56,7 +58,8 @@ module _ (n : ℕ) (job : ℕ → Job) (by : ℕ → ℕ) where
     places = l;
   }
 
-  module _ (limits : Limits job) (all : List ℕ) (b : Standing) (order₀ : List ℕ) (s : Standing) (order : List ℕ) (o : Toward all b order₀ s order) where
+  module _ (limits : Limits job) (all : List ℕ) (b : Standing) (order₀ : List ℕ) (s : Standing) (order : List ℕ)
+      (o : Toward all b order₀ s order) where
     abbrev rest : List ℕ
     rest = withoutAll (o .taken) all
 
@@ -80,7 +83,8 @@ module _ (n : ℕ) (job : ℕ → Job) (by : ℕ → ℕ) where
     }
 
     -- The run ends here.
-    ended : run job (s .desk .minute) rest ≡ [] → Stuck n job by (s .desk .minute) rest → (bound : ℕ) → Ran n job by bound all b whole order₀ s order
+    ended : run job (s .desk .minute) rest ≡ [] → Stuck n job by (s .desk .minute) rest → (bound : ℕ) →
+        Ran n job by bound all b whole order₀ s order
     ended e u bound =
         let t : whole ≡ o .taken = o .same ∙ (ap (λ (l : List ℕ). o .taken ++ l) e ∙ append-nil (o .taken)) in
         record {
@@ -106,7 +110,8 @@ module _ (n : ℕ) (job : ℕ → Job) (by : ℕ → ℕ) where
     ran-torn e = ended (run-undecided job (s .desk .minute) rest e) (inr e)
 
     -- The first pick is taken.
-    module _ (i : ℕ) (first : i ≡ firstPick job (s .desk .minute) rest) (m : List·Memᴰ i rest) (r : Standing) (a : Taken n job by rest s i r) where
+    module _ (i : ℕ) (first : i ≡ firstPick job (s .desk .minute) rest) (m : List·Memᴰ i rest) (r : Standing)
+        (a : Taken n job by rest s i r) where
       pub toward-next : decided job (s .desk .minute) rest ≡ true → s .count < mostRows → Toward all b order₀ r (set order (s .count) i)
       unfolding withoutAll deskThrough
       toward-next d h =
@@ -120,7 +125,8 @@ module _ (n : ℕ) (job : ℕ → Job) (by : ℕ → ℕ) where
           record {
             taken = more;
             sits = subst (λ (js : List ℕ). Sits n job by js r) l (a .sits);
-            same = o .same ∙ (ap (λ (js : List ℕ). o .taken ++ js) goes ∙ sym (append-assoc (o .taken) (i ∷ []) (run job (r .desk .minute) (withoutAll more all))));
+            same = o .same ∙ (ap (λ (js : List ℕ). o .taken ++ js) goes ∙
+                sym (append-assoc (o .taken) (i ∷ []) (run job (r .desk .minute) (withoutAll more all))));
             desk = a .desk ∙ (ap (λ (x : Desk). deskAfter x (job i)) (o .desk) ∙ sym (through-append job (b .desk) (o .taken) (i ∷ [])));
             count = omega (arith, a .count, o .count, length-append (o .taken) (i ∷ []));
             written =
@@ -135,7 +141,8 @@ module _ (n : ℕ) (job : ℕ → Job) (by : ℕ → ℕ) where
       toward-less = omega (arith, a .count, a .sits .count)
 
   -- A row, and the run from there.
-  module _ (limits : Limits job) (rest : List ℕ) (s : Standing) (order : List ℕ) (i : ℕ) (first : Standing) (a : Taken n job by rest s i first) (h : s .count < mostRows) (l : length order ≡ mostRows) where
+  module _ (limits : Limits job) (rest : List ℕ) (s : Standing) (order : List ℕ) (i : ℕ) (first : Standing)
+      (a : Taken n job by rest s i first) (h : s .count < mostRows) (l : length order ≡ mostRows) where
     abbrev begun : List ℕ
     begun = set order (s .count) i
 
@@ -150,8 +157,10 @@ module _ (n : ℕ) (job : ℕ → Job) (by : ℕ → ℕ) where
             let t : first .desk .minute ≡ finish (job i) (s .desk .minute) = ap (λ (x : Desk). x .minute) (a .desk) in
             let on = run job (finish (job i) (s .desk .minute)) (without i rest) in
             let e : run job (first .desk .minute) (without i rest) ≡ on = ap (λ (k : ℕ). run job k (without i rest)) t in
-            let d : deskThrough job (first .desk) (run job (first .desk .minute) (without i rest)) ≡ deskThrough job (deskAfter (s .desk) (job i)) on = λ x. deskThrough job (a .desk x) (e x) in
-            let w : take (first .count) begun ≡ take (s .count) order ++ (i ∷ []) = ap (λ (k : ℕ). take k begun) (a .count) ∙ order-more order (take (s .count) order) (s .count) i (omega arith) refl in
+            let d : deskThrough job (first .desk) (run job (first .desk .minute) (without i rest)) ≡ deskThrough job
+            (deskAfter (s .desk) (job i)) on = λ x. deskThrough job (a .desk x) (e x) in
+            let w : take (first .count) begun ≡ take (s .count) order ++ (i ∷ []) = ap (λ (k : ℕ). take k begun) (a .count) ∙
+            order-more order (take (s .count) order) (s .count) i (omega arith) refl in
             record {
               kept = λ k.
                   let m = q .kept k in (

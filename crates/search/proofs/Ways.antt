@@ -21,7 +21,7 @@ use Rattle.schedule.proofs.Numbers.{length-count}
 use Rattle.schedule.proofs.Search.{blocks-one, blocks-two, blocks-none}
 use Rattle.picks.specs.declared.Standing.{Standing}
 use Rattle.search.specs.Taking.{deskThrough, After}
-use Rattle.search.specs.Answers.{orderAtRaised}
+use Rattle.search.specs.Searched.{orderAtRaised}
 use Rattle.search.specs.Ways.{Way}
 use Rattle.search.proofs.Signs.{through-minute, through-within, through-grows, through-append}
 
@@ -76,7 +76,8 @@ module _ (job : ℕ → Job) (limits : Limits job) where
     opening-over b h = order-shut (lowered b) (breaks-it b (deskAt free) opening (omega arith) h)
 
     -- After the opening run.
-    pub way-first : (bound : ℕ) (s r : Standing) → s .desk ≡ deskAt free → s .count ≡ 0 → After n job by all s opening r → Way n job by free bound opening (withoutAll opening all) r
+    pub way-first : (bound : ℕ) (s r : Standing) → s .desk ≡ deskAt free → s .count ≡ 0 → After n job by all s opening r →
+        Way n job by free bound opening (withoutAll opening all) r
     way-first bound s r e c m =
         let d : r .desk ≡ deskThrough job (deskAt free) opening = m .desk ∙ ap (λ (x : Desk). deskThrough job x opening) e in
         let k : r .desk .minute ≡ endOf job free opening = ap (λ (x : Desk). x .minute) d ∙ through-minute job (deskAt free) opening in
@@ -92,7 +93,8 @@ module _ (job : ℕ → Job) (limits : Limits job) where
         }
 
     -- A smaller bound.
-    pub way-less : (bound less : ℕ) → less ≤ bound → (done rest : List ℕ) (s : Standing) → Way n job by free bound done rest s → Way n job by free less done rest s
+    pub way-less : (bound less : ℕ) → less ≤ bound → (done rest : List ℕ) (s : Standing) → Way n job by free bound done rest s →
+        Way n job by free less done rest s
     way-less bound less h done rest s w = record {
       fuel = w .fuel;
       sits = w .sits;
@@ -160,25 +162,34 @@ module _ (job : ℕ → Job) (limits : Limits job) where
           on-one h =
               let q = some-left z in
               subst (λ (js : List ℕ). keeps job (lowered b) now (blockOne job now js) ≡ true →
-              blocksFor job (w .fuel) (lowered b) now js ≡ joined (blockOne job now js) (blocksFor job m (lowered b) (endOf job now (blockOne job now js)) (withoutAll (blockOne job now js) js)))
-              (sym (q .rows)) (λ k. ap (λ (f : ℕ). blocksFor job f (lowered b) now (q .i ∷ q .is)) (q .steps) ∙ blocks-one job (lowered b) m now (q .i) (q .is) k) h
+              blocksFor job (w .fuel) (lowered b) now js ≡ joined (blockOne job now js)
+              (blocksFor job m (lowered b) (endOf job now (blockOne job now js)) (withoutAll (blockOne job now js) js)))
+              (sym (q .rows)) (λ k. ap (λ (f : ℕ). blocksFor job f (lowered b) now (q .i ∷ q .is)) (q .steps) ∙
+              blocks-one job (lowered b) m now (q .i) (q .is) k) h
 
           on-two : keeps job (lowered b) now one ≡ false → keeps job (lowered b) now two ≡ true → next ≡ after two
           on-two h g =
               let q = some-left z in
-              subst (λ (js : List ℕ). keeps job (lowered b) now (blockOne job now js) ≡ false → keeps job (lowered b) now (blockTwo job now js) ≡ true →
-              blocksFor job (w .fuel) (lowered b) now js ≡ joined (blockTwo job now js) (blocksFor job m (lowered b) (endOf job now (blockTwo job now js)) (withoutAll (blockTwo job now js) js)))
-              (sym (q .rows)) (λ k l. ap (λ (f : ℕ). blocksFor job f (lowered b) now (q .i ∷ q .is)) (q .steps) ∙ blocks-two job (lowered b) m now (q .i) (q .is) k l) h g
+              subst (λ (js : List ℕ). keeps job (lowered b) now (blockOne job now js) ≡ false →
+              keeps job (lowered b) now (blockTwo job now js) ≡ true →
+              blocksFor job (w .fuel) (lowered b) now js ≡ joined (blockTwo job now js)
+              (blocksFor job m (lowered b) (endOf job now (blockTwo job now js)) (withoutAll (blockTwo job now js) js)))
+              (sym (q .rows)) (λ k l. ap (λ (f : ℕ). blocksFor job f (lowered b) now (q .i ∷ q .is)) (q .steps) ∙
+              blocks-two job (lowered b) m now (q .i) (q .is) k l) h g
 
           on-none : keeps job (lowered b) now one ≡ false → keeps job (lowered b) now two ≡ false → next ≡ none
           on-none h g =
               let q = some-left z in
-              subst (λ (js : List ℕ). keeps job (lowered b) now (blockOne job now js) ≡ false → keeps job (lowered b) now (blockTwo job now js) ≡ false → blocksFor job (w .fuel) (lowered b) now js ≡ none)
-              (sym (q .rows)) (λ k l. ap (λ (f : ℕ). blocksFor job f (lowered b) now (q .i ∷ q .is)) (q .steps) ∙ blocks-none job (lowered b) m now (q .i) (q .is) k l) h g
+              subst (λ (js : List ℕ). keeps job (lowered b) now (blockOne job now js) ≡ false →
+              keeps job (lowered b) now (blockTwo job now js) ≡ false → blocksFor job (w .fuel) (lowered b) now js ≡ none)
+              (sym (q .rows)) (λ k l. ap (λ (f : ℕ). blocksFor job f (lowered b) now (q .i ∷ q .is)) (q .steps) ∙
+              blocks-none job (lowered b) m now (q .i) (q .is) k l) h g
 
         -- A block o that is the next one for all bounds that the desk r after it keeps.
         way-block : (o : List ℕ) (r : Standing) → 1 ≤ length o → After n job by rest s o r →
-            ((b : ℕ) → b ≤ bound → deskThrough job (s .desk) o .worst ≤ b → s .desk .worst ≤ b → blocksFor job (w .fuel) (lowered b) now rest ≡ joined o (blocksFor job m (lowered b) (endOf job now o) (withoutAll o rest))) →
+            ((b : ℕ) → b ≤ bound → deskThrough job (s .desk) o .worst ≤ b → s .desk .worst ≤ b →
+            blocksFor job (w .fuel) (lowered b) now rest ≡ joined o
+            (blocksFor job m (lowered b) (endOf job now o) (withoutAll o rest))) →
             Way n job by free bound (done ++ o) (withoutAll o rest) r
         way-block o r long g steps =
             let t : r .desk .minute ≡ endOf job now o = ap (λ (x : Desk). x .minute) (g .desk) ∙ through-minute job (s .desk) o in
@@ -204,10 +215,12 @@ module _ (job : ℕ → Job) (limits : Limits job) where
         module _ (over : bound < deskThrough job (s .desk) one .worst) where
           pub way-two : (r : Standing) → After n job by rest s two r → Way n job by free bound (done ++ two) (withoutAll two rest) r
           unfolding blockTwo
-          way-two r g = way-block two r (block-some job _ now rest) g (λ b h k low. on-two b (breaks-it b (s .desk) one low (omega arith)) (keeps-it b (s .desk) two low k))
+          way-two r g = way-block two r (block-some job _ now rest) g
+              (λ b h k low. on-two b (breaks-it b (s .desk) one low (omega arith)) (keeps-it b (s .desk) two low k))
 
           -- Neither block is within the bound.
           pub way-none : s .desk .worst ≤ bound → bound < deskThrough job (s .desk) two .worst → orderAtRaised job n free bound ≡ none
           way-none low h =
               w .leads bound (omega arith) low ∙
-              (ap (joined done) (on-none bound (breaks-it bound (s .desk) one low over) (breaks-it bound (s .desk) two low h)) ∙ joined-none done)
+              (ap (joined done) (on-none bound (breaks-it bound (s .desk) one low over) (breaks-it bound (s .desk) two low h)) ∙
+              joined-none done)

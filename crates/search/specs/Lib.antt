@@ -1,3 +1,3 @@
 pub mod Taking
-pub mod Answers
+pub mod Searched
 pub mod Ways

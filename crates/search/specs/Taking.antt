@@ -44,7 +44,8 @@ module _ (n : ℕ) (job : ℕ → Job) (by : ℕ → ℕ) where
 
   -- The next block: block one where the bound is kept with it, otherwise block two.
   pub record Stepped (bound : ℕ) (rest : List ℕ) (s : Standing) (order : List ℕ) (r : Block) (after : List ℕ) : Type 0 where
-    pub one : r .second ≡ false → (r .after .desk .worst ≤ bound) × Ran bound rest s (blockOne job (s .desk .minute) rest) order (r .after) after
+    pub one : r .second ≡ false → (r .after .desk .worst ≤ bound) ×
+        Ran bound rest s (blockOne job (s .desk .minute) rest) order (r .after) after
     pub two : r .second ≡ true → (bound < deskThrough job (s .desk) (blockOne job (s .desk .minute) rest) .worst) ×
         Ran bound rest s (blockTwo job (s .desk .minute) rest) order (r .after) after
     pub counts : (s .count < r .after .count) × (r .after .count ≤ n)

@@ -1,5 +1,5 @@
 -- The way to the order for a bound, and for each smaller one: the blocks from the opening run on. Rows are numbered by rank.
--- Rests on: Taking, Answers.
+-- Rests on: Taking, Searched.
 use Prim.Native.Nat.{ℕ, _≤_}
 use mathlib.Core.Path.{_≡_}
 use mathlib.Core.List.{List}
@@ -10,7 +10,7 @@ use Rattle.schedule.specs.Offset.{lowered, deskAt}
 use Rattle.picks.specs.declared.Standing.{Standing}
 use Rattle.picks.specs.Standing.{Sits}
 use Rattle.search.specs.Taking.{deskThrough}
-use Rattle.search.specs.Answers.{orderAtRaised}
+use Rattle.search.specs.Searched.{orderAtRaised}
 
 module _ (n : ℕ) (job : ℕ → Job) (by : ℕ → ℕ) (free : ℕ) where
   -- The desk s is on the way to the order for each bound up to `bound`, as long as its worst lateness is within that bound:

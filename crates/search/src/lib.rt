@@ -5,17 +5,18 @@ ghost use mathlib.Core.Bool.{true, false, _||_};
 ghost use mathlib.Core.List.{List, List·Memᴰ};
 ghost use Prim.Native.Nat.{ℕ, _+_, _-_, _≤_, _<_};
 ghost use lib.Dec.{leb, eqb};
-ghost use lib.ListN.{getD, take};
+ghost use lib.ListN.{length, getD, take};
 ghost use Rattle.schedule.specs.Limits.{EndsInTime, mostRows, rowPlaces};
 ghost use Rattle.schedule.specs.Picks.{decided, run, block, blockTwo};
 ghost use Rattle.schedule.specs.Columns.{at, columns, Limits};
 ghost use Rattle.picks.specs.declared.Standing.{Standing};
 ghost use Rattle.picks.specs.Standing.{Tables, Sits};
 ghost use Rattle.search.specs.Taking.{Ran, Stepped};
-ghost use Rattle.search.specs.Answers.{Searched};
+ghost use Rattle.search.specs.Searched.{Searched};
 use schedule::Desk;
 
-// The block that is taken next: whether it is block two, and the desk after it; the bound is kept exactly if the desk's worst lateness is within it.
+// The block that is taken next: whether it is block two, and the desk after it; the bound is kept exactly if the desk's worst lateness
+// is within it.
 pub struct Block {
     pub second: bool,
     pub after: picks::Standing,
@@ -37,7 +38,7 @@ fn decided_by(due: &[u32; Desk::PLACES], i: usize, j: usize) -> bool
 // First picks as long as the desk is decided and the bound is kept. The rows taken stand in the order from place `count` on.
 pub fn run_on(
     release: &[u32; Desk::PLACES],
-    length: &[u32; Desk::PLACES],
+    minutes: &[u32; Desk::PLACES],
     due: &[u32; Desk::PLACES],
     by: &[u32; Desk::PLACES],
     n: usize,
@@ -45,11 +46,15 @@ pub fn run_on(
     bound: u32,
     order: &mut [u32; Desk::ROWS],
 ) -> picks::Standing
-    requires { ⌜ Limits (columns (now release) (now length) (now due)) ⌝ }
-    requires { ⌜ Tables n (columns (now release) (now length) (now due)) (at (now by)) ⌝ }
-    requires { ⌜ ((rest : List ℕ) × Sits n (columns (now release) (now length) (now due)) (at (now by)) rest begin) × (lib.ListN.length (now order) ≡ mostRows) ⌝ }
-    ensures { λ r. ⌜ ((rest : List ℕ) → Sits n (columns (now (release .entry)) (now (length .entry)) (now (due .entry))) (at (now (by .entry))) rest begin →
-        Ran n (columns (now (release .entry)) (now (length .entry)) (now (due .entry))) (at (now (by .entry))) bound rest begin (run (columns (now (release .entry)) (now (length .entry)) (now (due .entry))) (begin .desk .minute) rest) (now (order .entry)) r (now (order .exit))) ⌝ }
+    requires { ⌜ Limits (columns (now release) (now minutes) (now due)) ⌝ }
+    requires { ⌜ Tables n (columns (now release) (now minutes) (now due)) (at (now by)) ⌝ }
+    requires { ⌜ ((rest : List ℕ) × Sits n (columns (now release) (now minutes) (now due)) (at (now by)) rest begin) ×
+        (length (now order) ≡ mostRows) ⌝ }
+    ensures { λ r. ⌜ ((rest : List ℕ) → Sits n (columns (now (release .entry)) (now (minutes .entry)) (now (due .entry)))
+        (at (now (by .entry))) rest begin →
+        Ran n (columns (now (release .entry)) (now (minutes .entry)) (now (due .entry))) (at (now (by .entry))) bound rest begin
+        (run (columns (now (release .entry)) (now (minutes .entry)) (now (due .entry))) (begin .desk .minute) rest)
+        (now (order .entry)) r (now (order .exit))) ⌝ }
 {
     let mut desk = begin.desk;
     let mut count = begin.count;
@@ -83,7 +88,7 @@ pub fn run_on(
             };
         }
         order[count] = i as u32;
-        let m = picks::take(release, length, due, by, n, desk, next, &mut ready, i);
+        let m = picks::take(release, minutes, due, by, n, desk, next, &mut ready, i);
         desk = m.desk;
         next = m.next;
         count += 1;
@@ -93,7 +98,7 @@ pub fn run_on(
 // Row i, then the run from there, as long as the bound is kept.
 fn block_on(
     release: &[u32; Desk::PLACES],
-    length: &[u32; Desk::PLACES],
+    minutes: &[u32; Desk::PLACES],
     due: &[u32; Desk::PLACES],
     by: &[u32; Desk::PLACES],
     n: usize,
@@ -102,16 +107,21 @@ fn block_on(
     bound: u32,
     order: &mut [u32; Desk::ROWS],
 ) -> picks::Standing
-    requires { ⌜ Limits (columns (now release) (now length) (now due)) ⌝ }
-    requires { ⌜ Tables n (columns (now release) (now length) (now due)) (at (now by)) ⌝ }
-    requires { ⌜ ((rest : List ℕ) × Sits n (columns (now release) (now length) (now due)) (at (now by)) rest s × List·Memᴰ i rest) × (lib.ListN.length (now order) ≡ mostRows) ⌝ }
-    ensures { λ r. ⌜ ((rest : List ℕ) → Sits n (columns (now (release .entry)) (now (length .entry)) (now (due .entry))) (at (now (by .entry))) rest s → List·Memᴰ i rest →
-        (s .count < r .count) × Ran n (columns (now (release .entry)) (now (length .entry)) (now (due .entry))) (at (now (by .entry))) bound rest s (block (columns (now (release .entry)) (now (length .entry)) (now (due .entry))) i (s .desk .minute) rest) (now (order .entry)) r (now (order .exit))) ⌝ }
+    requires { ⌜ Limits (columns (now release) (now minutes) (now due)) ⌝ }
+    requires { ⌜ Tables n (columns (now release) (now minutes) (now due)) (at (now by)) ⌝ }
+    requires { ⌜ ((rest : List ℕ) × Sits n (columns (now release) (now minutes) (now due)) (at (now by)) rest s × List·Memᴰ i rest) ×
+        (length (now order) ≡ mostRows) ⌝ }
+    ensures { λ r. ⌜ ((rest : List ℕ) → Sits n (columns (now (release .entry)) (now (minutes .entry)) (now (due .entry)))
+        (at (now (by .entry))) rest s → List·Memᴰ i rest →
+        (s .count < r .count) × Ran n (columns (now (release .entry)) (now (minutes .entry)) (now (due .entry)))
+        (at (now (by .entry))) bound rest s
+        (block (columns (now (release .entry)) (now (minutes .entry)) (now (due .entry))) i (s .desk .minute) rest)
+        (now (order .entry)) r (now (order .exit))) ⌝ }
 {
     let k = s.count;
     order[k] = i as u32;
     let mut ready = s.ready;
-    let m = picks::take(release, length, due, by, n, s.desk, s.next, &mut ready, i);
+    let m = picks::take(release, minutes, due, by, n, s.desk, s.next, &mut ready, i);
     let desk = m.desk;
     let first = picks::Standing {
         desk: desk,
@@ -119,13 +129,13 @@ fn block_on(
         next: m.next,
         ready: ready,
     };
-    run_on(release, length, due, by, n, first, bound, order)
+    run_on(release, minutes, due, by, n, first, bound, order)
 }
 
 // Block one if the bound is kept with it, otherwise block two.
 pub fn next_block(
     release: &[u32; Desk::PLACES],
-    length: &[u32; Desk::PLACES],
+    minutes: &[u32; Desk::PLACES],
     due: &[u32; Desk::PLACES],
     by: &[u32; Desk::PLACES],
     n: usize,
@@ -133,21 +143,26 @@ pub fn next_block(
     bound: u32,
     order: &mut [u32; Desk::ROWS],
 ) -> Block
-    requires { ⌜ Limits (columns (now release) (now length) (now due)) ⌝ }
-    requires { ⌜ Tables n (columns (now release) (now length) (now due)) (at (now by)) ⌝ }
-    requires { ⌜ ((rest : List ℕ) × Sits n (columns (now release) (now length) (now due)) (at (now by)) rest s × (decided (columns (now release) (now length) (now due)) (s .desk .minute) rest ≡ false)) × (lib.ListN.length (now order) ≡ mostRows) ⌝ }
-    ensures { λ r. ⌜ ((rest : List ℕ) → Sits n (columns (now (release .entry)) (now (length .entry)) (now (due .entry))) (at (now (by .entry))) rest s → decided (columns (now (release .entry)) (now (length .entry)) (now (due .entry))) (s .desk .minute) rest ≡ false →
-        Stepped n (columns (now (release .entry)) (now (length .entry)) (now (due .entry))) (at (now (by .entry))) bound rest s (now (order .entry)) r (now (order .exit))) ⌝ }
+    requires { ⌜ Limits (columns (now release) (now minutes) (now due)) ⌝ }
+    requires { ⌜ Tables n (columns (now release) (now minutes) (now due)) (at (now by)) ⌝ }
+    requires { ⌜ ((rest : List ℕ) × Sits n (columns (now release) (now minutes) (now due)) (at (now by)) rest s ×
+        (decided (columns (now release) (now minutes) (now due)) (s .desk .minute) rest ≡ false)) ×
+        (length (now order) ≡ mostRows) ⌝ }
+    ensures { λ r. ⌜ ((rest : List ℕ) → Sits n (columns (now (release .entry)) (now (minutes .entry)) (now (due .entry)))
+        (at (now (by .entry))) rest s → decided (columns (now (release .entry)) (now (minutes .entry)) (now (due .entry)))
+        (s .desk .minute) rest ≡ false →
+        Stepped n (columns (now (release .entry)) (now (minutes .entry)) (now (due .entry))) (at (now (by .entry))) bound rest s
+        (now (order .entry)) r (now (order .exit))) ⌝ }
 {
     let p = picks::picks(by, n, &s.ready, s.next);
-    let one = block_on(release, length, due, by, n, s, p.first, bound, order);
+    let one = block_on(release, minutes, due, by, n, s, p.first, bound, order);
     if one.desk.worst <= bound {
         return Block {
             second: false,
             after: one,
         };
     }
-    let two = block_on(release, length, due, by, n, s, p.second, bound, order);
+    let two = block_on(release, minutes, due, by, n, s, p.second, bound, order);
     Block {
         second: true,
         after: two,
@@ -157,7 +172,7 @@ pub fn next_block(
 // Block two.
 pub fn block_two(
     release: &[u32; Desk::PLACES],
-    length: &[u32; Desk::PLACES],
+    minutes: &[u32; Desk::PLACES],
     due: &[u32; Desk::PLACES],
     by: &[u32; Desk::PLACES],
     n: usize,
@@ -165,20 +180,27 @@ pub fn block_two(
     bound: u32,
     order: &mut [u32; Desk::ROWS],
 ) -> picks::Standing
-    requires { ⌜ Limits (columns (now release) (now length) (now due)) ⌝ }
-    requires { ⌜ Tables n (columns (now release) (now length) (now due)) (at (now by)) ⌝ }
-    requires { ⌜ ((rest : List ℕ) × Sits n (columns (now release) (now length) (now due)) (at (now by)) rest s × (decided (columns (now release) (now length) (now due)) (s .desk .minute) rest ≡ false)) × (lib.ListN.length (now order) ≡ mostRows) ⌝ }
-    ensures { λ r. ⌜ ((rest : List ℕ) → Sits n (columns (now (release .entry)) (now (length .entry)) (now (due .entry))) (at (now (by .entry))) rest s → decided (columns (now (release .entry)) (now (length .entry)) (now (due .entry))) (s .desk .minute) rest ≡ false →
-        (s .count < r .count) × Ran n (columns (now (release .entry)) (now (length .entry)) (now (due .entry))) (at (now (by .entry))) bound rest s (blockTwo (columns (now (release .entry)) (now (length .entry)) (now (due .entry))) (s .desk .minute) rest) (now (order .entry)) r (now (order .exit))) ⌝ }
+    requires { ⌜ Limits (columns (now release) (now minutes) (now due)) ⌝ }
+    requires { ⌜ Tables n (columns (now release) (now minutes) (now due)) (at (now by)) ⌝ }
+    requires { ⌜ ((rest : List ℕ) × Sits n (columns (now release) (now minutes) (now due)) (at (now by)) rest s ×
+        (decided (columns (now release) (now minutes) (now due)) (s .desk .minute) rest ≡ false)) ×
+        (length (now order) ≡ mostRows) ⌝ }
+    ensures { λ r. ⌜ ((rest : List ℕ) → Sits n (columns (now (release .entry)) (now (minutes .entry)) (now (due .entry)))
+        (at (now (by .entry))) rest s → decided (columns (now (release .entry)) (now (minutes .entry)) (now (due .entry)))
+        (s .desk .minute) rest ≡ false →
+        (s .count < r .count) × Ran n (columns (now (release .entry)) (now (minutes .entry)) (now (due .entry)))
+        (at (now (by .entry))) bound rest s
+        (blockTwo (columns (now (release .entry)) (now (minutes .entry)) (now (due .entry))) (s .desk .minute) rest)
+        (now (order .entry)) r (now (order .exit))) ⌝ }
 {
     let p = picks::picks(by, n, &s.ready, s.next);
-    block_on(release, length, due, by, n, s, p.second, bound, order)
+    block_on(release, minutes, due, by, n, s, p.second, bound, order)
 }
 
 // The search for the order for a bound: the run, then blocks, until no row is left or a lateness is above the bound.
 pub fn plan_for(
     release: &[u32; Desk::PLACES],
-    length: &[u32; Desk::PLACES],
+    minutes: &[u32; Desk::PLACES],
     due: &[u32; Desk::PLACES],
     by: &[u32; Desk::PLACES],
     n: usize,
@@ -186,13 +208,14 @@ pub fn plan_for(
     bound: u32,
     order: &mut [u32; Desk::ROWS],
 ) -> picks::Standing
-    requires { ⌜ Limits (columns (now release) (now length) (now due)) ⌝ }
-    requires { ⌜ Tables n (columns (now release) (now length) (now due)) (at (now by)) ⌝ }
-    requires { ⌜ (1 ≤ n) × EndsInTime free n × (lib.ListN.length (now order) ≡ mostRows) ⌝ }
-    ensures { λ r. ⌜ Searched (columns (now (release .entry)) (now (length .entry)) (now (due .entry))) n free bound r (now (order .exit)) ⌝ }
+    requires { ⌜ Limits (columns (now release) (now minutes) (now due)) ⌝ }
+    requires { ⌜ Tables n (columns (now release) (now minutes) (now due)) (at (now by)) ⌝ }
+    requires { ⌜ (1 ≤ n) × EndsInTime free n × (length (now order) ≡ mostRows) ⌝ }
+    ensures { λ r. ⌜ Searched (columns (now (release .entry)) (now (minutes .entry)) (now (due .entry))) n free bound r
+        (now (order .exit)) ⌝ }
 {
     let begin = picks::start(release, by, n, free);
-    let mut s = run_on(release, length, due, by, n, begin, bound, order);
+    let mut s = run_on(release, minutes, due, by, n, begin, bound, order);
     loop {
         if bound < s.desk.worst {
             return s;
@@ -200,7 +223,7 @@ pub fn plan_for(
         if s.count == n {
             return s;
         }
-        let b = next_block(release, length, due, by, n, s, bound, order);
+        let b = next_block(release, minutes, due, by, n, s, bound, order);
         s = b.after;
     }
 }

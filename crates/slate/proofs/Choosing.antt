@@ -24,7 +24,7 @@ use Rattle.calls.specs.declared.ListAnswer.the-variants as list-answer
 use Rattle.calls.specs.Answers.{saidList}
 use Rattle.calls.specs.Calls.{Outcome, gives, planningOf, listCall, planCall}
 use Rattle.calls.specs.Lines.{refusal, lineOf, printed}
-use Rattle.calls.specs.Promise.{listedPlans}
+use Rattle.calls.specs.CallsPromise.{listedPlans}
 use Rattle.calls.proofs.CallLaws.{list-refused, list-of, list-is}
 use Rattle.planner.specs.Promise.{orderingRule}
 use Rattle.planner.proofs.Promise.{lent-memory, definitions-hold, calls-keep-promise}

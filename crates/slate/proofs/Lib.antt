@@ -1,4 +1,4 @@
-pub mod Words
+pub mod InputWords
 pub mod Bytes
 pub mod Naming
 pub mod Standing

@@ -10,7 +10,7 @@ use native.Mathlib.Numerals.{add-one}
 use mir.Syntax.{w32}
 use mir.Val.{toZ, ofZ}
 use mir.ValLaws.{toZ-ofZ}
-use Rattle.schedule.proofs.Words.{lowered-fits}
+use Rattle.schedule.proofs.SignedWords.{lowered-fits}
 use borrow.Author.Tests.{lt-ltb, le-ltb}
 use lib.IntN.{ℤ, pos, negsuc}
 use lib.ListN.{length, take, getD, length-append}

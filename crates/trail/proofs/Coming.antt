@@ -1,4 +1,4 @@
--- The search from block to block: how it comes past the opening run and goes on with a block, and what it answers at its end.
+-- The search along the trail: how it comes past the opening run, goes on with a block that the trail then holds, and ends.
 -- Assumes nothing.
 use Prim.Native.Nat.{ℕ, suc, _+_, _≤_, _<_}
 use native.Mathlib.Omega.{arith}
@@ -25,7 +25,8 @@ use Rattle.trail.proofs.Trails.{held-set}
 
 module _ (n : ℕ) (job : ℕ → Job) (by : ℕ → ℕ) (limits : Limits job) (free : ℕ) where
   -- The opening run, from a desk with nothing done yet.
-  module _ (bound : ℕ) (s : Standing) (starts : s .desk ≡ deskAt free) (none-done : s .count ≡ 0) (order : List ℕ) (r : Standing) (after : List ℕ)
+  module _ (bound : ℕ) (s : Standing) (starts : s .desk ≡ deskAt free) (none-done : s .count ≡ 0) (order : List ℕ) (r : Standing)
+      (after : List ℕ)
       (q : Ran n job by bound (countFrom 1 n) s (run job (s .desk .minute) (countFrom 1 n)) order r after) where
     abbrev opening : List ℕ
     opening = run job free (countFrom 1 n)
@@ -63,15 +64,29 @@ module _ (n : ℕ) (job : ℕ → Job) (by : ℕ → ℕ) (limits : Limits job) 
 
     -- The block is on the trail.
     held-more : (second : Bool) (r : Standing) → r .desk .worst ≡ deskThrough job (s .desk) (cond second two one) .worst →
-        (second ≡ true → bound < deskThrough job (s .desk) one .worst) → OnTrail n job by free bound (set trail k (wordsOf s second)) (suc k) (r .desk .worst)
+        (second ≡ true → bound < deskThrough job (s .desk) one .worst) →
+        OnTrail n job by free bound (set trail k (wordsOf s second)) (suc k) (r .desk .worst)
     held-more second r late over =
         let new = set trail k (wordsOf s second) in
         let e : trailWords new k ≡ wordsOf s second = getD-set-same trail k (wordsOf s second) [] room in (
-          record { from = s; second = second; held = e; place = place; done = done; rest = rest; way = w; torn = torn; late = late; first-over = over },
-          subst (λ (x : List ℕ). OnTrail n job by free bound new k (at x 1)) (sym e) (held-set n job by free bound trail k (wordsOf s second) k (s .desk .worst) (omega arith) held),
+          record {
+            from = s;
+            second = second;
+            held = e;
+            place = place;
+            done = done;
+            rest = rest;
+            way = w;
+            torn = torn;
+            late = late;
+            first-over = over;
+          },
+          subst (λ (x : List ℕ). OnTrail n job by free bound new k (at x 1)) (sym e)
+              (held-set n job by free bound trail k (wordsOf s second) k (s .desk .worst) (omega arith) held),
         )
 
-    came-on : (c : Bool) (order : List ℕ) (r : Standing) (after : List ℕ) → s .count < r .count → Went n job by limits free bound done rest s order (cond c two one) r after →
+    came-on : (c : Bool) (order : List ℕ) (r : Standing) (after : List ℕ) → s .count < r .count →
+        Went n job by limits free bound done rest s order (cond c two one) r after →
         (c ≡ true → bound < deskThrough job (s .desk) one .worst) → Came n job by free bound (set trail k (wordsOf s c)) (suc k) r
     came-on c order r after h q over = record {
       kept = λ l.
@@ -87,9 +102,11 @@ module _ (n : ℕ) (job : ℕ → Job) (by : ℕ → ℕ) (limits : Limits job) 
       over = q .over;
     }
 
-    pub came-two : bound < deskThrough job (s .desk) one .worst → (order : List ℕ) (r : Standing) (after : List ℕ) → s .count < r .count → Ran n job by bound rest s two order r after →
+    pub came-two : bound < deskThrough job (s .desk) one .worst → (order : List ℕ) (r : Standing) (after : List ℕ) →
+        s .count < r .count → Ran n job by bound rest s two order r after →
         Came n job by free bound (set trail k (wordsOf s true)) (suc k) r
-    came-two over order r after h q = came-on true order r after h (went-two n job by limits free bound done rest s w torn low over order r after q) (λ e. over)
+    came-two over order r after h q = came-on true order r after h
+        (went-two n job by limits free bound done rest s w torn low over order r after q) (λ e. over)
 
     pub came-next : (order : List ℕ) (b : Block) (after : List ℕ) → Stepped n job by bound rest s order b after →
         Came n job by free bound (set trail k (wordsOf s (b .second))) (k + 1) (b .after)

@@ -40,7 +40,17 @@ module _ (w : List ℕ) (s : Standing) (second : Bool) (fits : Fits s) (e : w �
   pub worst-fits : at w 1 ≤ 4294967295
   worst-fits = omega (arith, ap (λ (l : List ℕ). at l 1) e, fits .worst)
 
-  pub desk-back : record { desk = record { minute = at w 0; worst = at w 1 }; count = at w 2; next = at w 3; ready = fiveFrom w 5 6 7 8 9 } ≡ s
+  pub desk-back : record {
+    desk = record { minute = at w 0; worst = at w 1 };
+    count = at w 2;
+    next = at w 3;
+    ready = fiveFrom w 5 6 7 8 9;
+  } ≡ s
   desk-back =
-      ap (λ (l : List ℕ). record { desk = record { minute = at l 0; worst = at l 1 }; count = at l 2; next = at l 3; ready = fiveFrom l 5 6 7 8 9 }) e ∙
+      ap (λ (l : List ℕ). record {
+        desk = record { minute = at l 0; worst = at l 1 };
+        count = at l 2;
+        next = at l 3;
+        ready = fiveFrom l 5 6 7 8 9;
+      }) e ∙
       ap (λ (l : List ℕ). record { desk = s .desk; count = s .count; next = s .next; ready = l }) (five (s .ready) (fits .ready))

@@ -64,12 +64,14 @@ module _ (n : ℕ) (job : ℕ → Job) (by : ℕ → ℕ) (free : ℕ) where
   held-set bound trail k words (suc d) worst h g =
       let e : getD (set trail k words) d [] ≡ getD trail d [] = getD-set-other trail k d words [] (λ x. omega arith) in (
         subst (λ (w : List ℕ). Entry n job by free bound d w worst) (sym e) (g .0),
-        subst (λ (w : List ℕ). OnTrail n job by free bound (set trail k words) d (at w 1)) (sym e) (held-set bound trail k words d (worstAt trail d) (omega arith) (g .1)),
+        subst (λ (w : List ℕ). OnTrail n job by free bound (set trail k words) d (at w 1)) (sym e)
+            (held-set bound trail k words d (worstAt trail d) (omega arith) (g .1)),
       )
 
   module _ (limits : Limits job) where
     -- A smaller bound.
-    entry-less : (bound less : ℕ) → less ≤ bound → (k : ℕ) (words : List ℕ) (after : ℕ) → Entry n job by free bound k words after → Entry n job by free less k words after
+    entry-less : (bound less : ℕ) → less ≤ bound → (k : ℕ) (words : List ℕ) (after : ℕ) → Entry n job by free bound k words after →
+        Entry n job by free less k words after
     entry-less bound less h k words after e = record {
       from = e .from;
       second = e .second;
@@ -83,17 +85,24 @@ module _ (n : ℕ) (job : ℕ → Job) (by : ℕ → ℕ) (free : ℕ) where
       first-over = λ s. omega (arith, e .first-over s);
     }
 
-    pub held-less : (bound less : ℕ) → less ≤ bound → (trail : List (List ℕ)) (depth worst : ℕ) → OnTrail n job by free bound trail depth worst → OnTrail n job by free less trail depth worst
+    pub held-less : (bound less : ℕ) → less ≤ bound → (trail : List (List ℕ)) (depth worst : ℕ) →
+        OnTrail n job by free bound trail depth worst → OnTrail n job by free less trail depth worst
     held-less bound less h trail zero worst g = g
-    held-less bound less h trail (suc d) worst g = (entry-less bound less h d (trailWords trail d) worst (g .0), held-less bound less h trail d (worstAt trail d) (g .1))
+    held-less bound less h trail (suc d) worst
+        g = (entry-less bound less h d (trailWords trail d) worst (g .0), held-less bound less h trail d (worstAt trail d) (g .1))
 
     -- Back to the first k blocks: the worst lateness after them is above the bound.
-    pub held-back : (bound : ℕ) (trail : List (List ℕ)) (depth worst k : ℕ) → OnTrail n job by free bound trail depth worst → bound < worst → Back trail bound depth k →
+    pub held-back : (bound : ℕ) (trail : List (List ℕ)) (depth worst k : ℕ) → OnTrail n job by free bound trail depth worst →
+        bound < worst → Back trail bound depth k →
         (late : ℕ) × (bound < late) × OnTrail n job by free bound trail k late
-    held-back bound trail zero worst k g h b = let e : k ≡ 0 = omega (arith, b .some) in (worst, h, subst (λ (m : ℕ). OnTrail n job by free bound trail m worst) (sym e) g)
+    held-back bound trail zero worst k g h b = let e : k ≡ 0 = omega (arith, b .some) in
+        (worst, h, subst (λ (m : ℕ). OnTrail n job by free bound trail m worst) (sym e) g)
     held-back bound trail (suc d) worst k g h b =
-        go (leb k d) refl (λ l. held-back bound trail d (worstAt trail d) k (g .1) (b .past d l (omega arith)) (record { some = l; begun = b .begun; past = λ e x y. b .past e x (omega arith) }))
+        go (leb k d) refl (λ l. held-back bound trail d (worstAt trail d) k (g .1) (b .past d l (omega arith))
+        (record { some = l; begun = b .begun; past = λ e x y. b .past e x (omega arith) }))
       where
-        go : (c : Bool) → leb k d ≡ c → (k ≤ d → (late : ℕ) × (bound < late) × OnTrail n job by free bound trail k late) → (late : ℕ) × (bound < late) × OnTrail n job by free bound trail k late
+        go : (c : Bool) → leb k d ≡ c → (k ≤ d → (late : ℕ) × (bound < late) × OnTrail n job by free bound trail k late) → (late : ℕ) ×
+            (bound < late) × OnTrail n job by free bound trail k late
         go true e f = f (leb-true k d e)
-        go false e f = let x : k ≡ suc d = omega (arith, leb-false k d e, b .some) in (worst, h, subst (λ (m : ℕ). OnTrail n job by free bound trail m worst) (sym x) g)
+        go false e f = let x : k ≡ suc d = omega (arith, leb-false k d e, b .some) in
+            (worst, h, subst (λ (m : ℕ). OnTrail n job by free bound trail m worst) (sym x) g)

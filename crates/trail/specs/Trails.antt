@@ -1,5 +1,5 @@
 -- The way to a plan: the blocks from the opening run on, as the trail holds them, so that a smaller bound goes on from one of them.
--- Rows are numbered by rank. Rests on: Taking, Answers.
+-- Rows are numbered by rank. Rests on: Taking, Searched.
 use Prim.Native.Nat.{ℕ, zero, suc, _≤_, _<_}
 use mathlib.Core.Bool.{Bool, true, false, cond}
 use mathlib.Core.Path.{_≡_}
@@ -14,7 +14,7 @@ use Rattle.picks.specs.declared.Standing.{Standing}
 use Rattle.picks.specs.Bits.{bit}
 use Rattle.trail.specs.declared.Reached.{Reached}
 use Rattle.search.specs.Taking.{Stuck, deskThrough}
-use Rattle.search.specs.Answers.{orderAtRaised}
+use Rattle.search.specs.Searched.{orderAtRaised}
 use Rattle.search.specs.Ways.{Way}
 
 -- A desk on the way and whether block two was taken there, as ten words.
@@ -53,7 +53,8 @@ module _ (n : ℕ) (job : ℕ → Job) (by : ℕ → ℕ) (free : ℕ) where
     pub rest : List ℕ
     pub way : Way n job by free bound done rest from
     pub torn : decided job (from .desk .minute) rest ≡ false
-    pub late : after ≡ deskThrough job (from .desk) (cond second (blockTwo job (from .desk .minute) rest) (blockOne job (from .desk .minute) rest)) .worst
+    pub late : after ≡ deskThrough job (from .desk)
+        (cond second (blockTwo job (from .desk .minute) rest) (blockOne job (from .desk .minute) rest)) .worst
     pub first-over : second ≡ true → bound < deskThrough job (from .desk) (blockOne job (from .desk .minute) rest) .worst
 
   -- The trail holds as many blocks, `worst` being the worst lateness after them; of none it is that of the opening run.

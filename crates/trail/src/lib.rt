@@ -2,8 +2,8 @@
 // Rows are numbered from 1, so columns have 257 places; 0 stands for no row. Latenesses and bounds are raised by 2^31.
 ghost use mathlib.Core.Path.{_≡_};
 ghost use mathlib.Core.Bool.{Bool};
+ghost use lib.ListN.{length};
 ghost use Prim.Native.Nat.{ℕ, _≤_, _<_};
-ghost use lib.ListN;
 ghost use Rattle.schedule.specs.Limits.{EndsInTime, mostRows};
 ghost use Rattle.schedule.specs.Columns.{at, columns, Limits};
 ghost use Rattle.picks.specs.declared.Standing.{Standing};
@@ -24,7 +24,7 @@ pub struct Reached {
 
 // A desk on the way and whether block two was taken there, as words of the trail.
 fn words_of(s: picks::Standing, second: bool) -> [u64; 10]
-    ensures { λ r. ⌜ (lib.ListN.length (s .ready) ≡ 5 → r ≡ wordsOf s second) ⌝ }
+    ensures { λ r. ⌜ (length (s .ready) ≡ 5 → r ≡ wordsOf s second) ⌝ }
 {
     let w = s.ready;
     [
@@ -60,7 +60,7 @@ fn desk_of(w: [u64; 10]) -> picks::Standing
 // Blocks from a desk on, each kept on the trail from the place `from` on, until no row is left or a lateness is above the bound.
 fn onward(
     release: &[u32; Desk::PLACES],
-    length: &[u32; Desk::PLACES],
+    minutes: &[u32; Desk::PLACES],
     due: &[u32; Desk::PLACES],
     by: &[u32; Desk::PLACES],
     n: usize,
@@ -70,11 +70,15 @@ fn onward(
     order: &mut [u32; Desk::ROWS],
     trail: &mut [[u64; 10]],
 ) -> Reached
-    requires { ⌜ Limits (columns (now release) (now length) (now due)) ⌝ }
-    requires { ⌜ Tables n (columns (now release) (now length) (now due)) (at (now by)) ⌝ }
-    requires { ⌜ (lib.ListN.length (now order) ≡ mostRows) × (n ≤ lib.ListN.length (now trail)) × ((free : ℕ) × Came n (columns (now release) (now length) (now due)) (at (now by)) free bound (now trail) from first) ⌝ }
-    ensures { λ r. ⌜ (lib.ListN.length (now (order .exit)) ≡ mostRows) × (n ≤ lib.ListN.length (now (trail .exit))) ×
-        ((free : ℕ) → Came n (columns (now (release .entry)) (now (length .entry)) (now (due .entry))) (at (now (by .entry))) free bound (now (trail .entry)) from first → Ended n (columns (now (release .entry)) (now (length .entry)) (now (due .entry))) (at (now (by .entry))) free bound (now (trail .exit)) r) ⌝ }
+    requires { ⌜ Limits (columns (now release) (now minutes) (now due)) ⌝ }
+    requires { ⌜ Tables n (columns (now release) (now minutes) (now due)) (at (now by)) ⌝ }
+    requires { ⌜ (length (now order) ≡ mostRows) × (n ≤ length (now trail)) ×
+        ((free : ℕ) × Came n (columns (now release) (now minutes) (now due)) (at (now by)) free bound (now trail) from first) ⌝ }
+    ensures { λ r. ⌜ (length (now (order .exit)) ≡ mostRows) × (n ≤ length (now (trail .exit))) ×
+        ((free : ℕ) → Came n (columns (now (release .entry)) (now (minutes .entry)) (now (due .entry))) (at (now (by .entry))) free bound
+        (now (trail .entry)) from first →
+        Ended n (columns (now (release .entry)) (now (minutes .entry)) (now (due .entry))) (at (now (by .entry))) free bound
+        (now (trail .exit)) r) ⌝ }
 {
     let mut s = first;
     let mut d = from;
@@ -85,7 +89,7 @@ fn onward(
         if s.count == n {
             return Reached { depth: d, at: s };
         }
-        let b = search::next_block(release, length, due, by, n, s, bound, order);
+        let b = search::next_block(release, minutes, due, by, n, s, bound, order);
         trail[d] = words_of(s, b.second);
         s = b.after;
         d += 1;
@@ -95,7 +99,7 @@ fn onward(
 // The search set out with a bound: the opening run, then blocks.
 pub fn set_out(
     release: &[u32; Desk::PLACES],
-    length: &[u32; Desk::PLACES],
+    minutes: &[u32; Desk::PLACES],
     due: &[u32; Desk::PLACES],
     by: &[u32; Desk::PLACES],
     n: usize,
@@ -104,19 +108,21 @@ pub fn set_out(
     order: &mut [u32; Desk::ROWS],
     trail: &mut [[u64; 10]],
 ) -> Reached
-    requires { ⌜ Limits (columns (now release) (now length) (now due)) ⌝ }
-    requires { ⌜ Tables n (columns (now release) (now length) (now due)) (at (now by)) ⌝ }
-    requires { ⌜ EndsInTime free n × (lib.ListN.length (now order) ≡ mostRows) × (n ≤ lib.ListN.length (now trail)) ⌝ }
-    ensures { λ r. ⌜ (lib.ListN.length (now (order .exit)) ≡ mostRows) × (n ≤ lib.ListN.length (now (trail .exit))) × Ended n (columns (now (release .entry)) (now (length .entry)) (now (due .entry))) (at (now (by .entry))) free bound (now (trail .exit)) r ⌝ }
+    requires { ⌜ Limits (columns (now release) (now minutes) (now due)) ⌝ }
+    requires { ⌜ Tables n (columns (now release) (now minutes) (now due)) (at (now by)) ⌝ }
+    requires { ⌜ EndsInTime free n × (length (now order) ≡ mostRows) × (n ≤ length (now trail)) ⌝ }
+    ensures { λ r. ⌜ (length (now (order .exit)) ≡ mostRows) × (n ≤ length (now (trail .exit))) ×
+        Ended n (columns (now (release .entry)) (now (minutes .entry)) (now (due .entry))) (at (now (by .entry))) free bound
+        (now (trail .exit)) r ⌝ }
 {
     let begin = picks::start(release, by, n, free);
-    let first = search::run_on(release, length, due, by, n, begin, bound, order);
-    onward(release, length, due, by, n, first, 0, bound, order, trail)
+    let first = search::run_on(release, minutes, due, by, n, begin, bound, order);
+    onward(release, minutes, due, by, n, first, 0, bound, order, trail)
 }
 
 // The blocks before the last one that was begun within the bound, and that one: how many they are.
 fn back_to(trail: &[[u64; 10]], depth: usize, bound: u32) -> usize
-    requires { ⌜ depth ≤ lib.ListN.length (now trail) ⌝ }
+    requires { ⌜ depth ≤ length (now trail) ⌝ }
     ensures { λ r. ⌜ Back (now (trail .entry)) bound depth r ⌝ }
 {
     let mut k = depth;
@@ -133,7 +139,7 @@ fn back_to(trail: &[[u64; 10]], depth: usize, bound: u32) -> usize
 // Where that was block two already, or the opening run, no order keeps the bound: the search stays where it came to, above the bound.
 pub fn resume(
     release: &[u32; Desk::PLACES],
-    length: &[u32; Desk::PLACES],
+    minutes: &[u32; Desk::PLACES],
     due: &[u32; Desk::PLACES],
     by: &[u32; Desk::PLACES],
     n: usize,
@@ -142,11 +148,16 @@ pub fn resume(
     order: &mut [u32; Desk::ROWS],
     trail: &mut [[u64; 10]],
 ) -> Reached
-    requires { ⌜ Limits (columns (now release) (now length) (now due)) ⌝ }
-    requires { ⌜ Tables n (columns (now release) (now length) (now due)) (at (now by)) ⌝ }
-    requires { ⌜ (lib.ListN.length (now order) ≡ mostRows) × (n ≤ lib.ListN.length (now trail)) × ((free : ℕ) × (before : ℕ) × Lowered n (columns (now release) (now length) (now due)) (at (now by)) free before bound (now trail) reached) ⌝ }
-    ensures { λ r. ⌜ (lib.ListN.length (now (order .exit)) ≡ mostRows) × (n ≤ lib.ListN.length (now (trail .exit))) ×
-        ((free before : ℕ) → Lowered n (columns (now (release .entry)) (now (length .entry)) (now (due .entry))) (at (now (by .entry))) free before bound (now (trail .entry)) reached → Ended n (columns (now (release .entry)) (now (length .entry)) (now (due .entry))) (at (now (by .entry))) free bound (now (trail .exit)) r) ⌝ }
+    requires { ⌜ Limits (columns (now release) (now minutes) (now due)) ⌝ }
+    requires { ⌜ Tables n (columns (now release) (now minutes) (now due)) (at (now by)) ⌝ }
+    requires { ⌜ (length (now order) ≡ mostRows) × (n ≤ length (now trail)) ×
+        ((free : ℕ) × (before : ℕ) × Lowered n (columns (now release) (now minutes) (now due)) (at (now by)) free before bound
+        (now trail) reached) ⌝ }
+    ensures { λ r. ⌜ (length (now (order .exit)) ≡ mostRows) × (n ≤ length (now (trail .exit))) ×
+        ((free before : ℕ) → Lowered n (columns (now (release .entry)) (now (minutes .entry)) (now (due .entry)))
+        (at (now (by .entry))) free before bound (now (trail .entry)) reached →
+        Ended n (columns (now (release .entry)) (now (minutes .entry)) (now (due .entry))) (at (now (by .entry))) free bound
+        (now (trail .exit)) r) ⌝ }
 {
     let k = back_to(trail, reached.depth, bound);
     if k == 0 {
@@ -157,7 +168,7 @@ pub fn resume(
         return reached;
     }
     let s = desk_of(w);
-    let two = search::block_two(release, length, due, by, n, s, bound, order);
+    let two = search::block_two(release, minutes, due, by, n, s, bound, order);
     trail[k - 1] = words_of(s, true);
-    onward(release, length, due, by, n, two, k, bound, order, trail)
+    onward(release, minutes, due, by, n, two, k, bound, order, trail)
 }

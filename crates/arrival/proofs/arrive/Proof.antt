@@ -19,7 +19,8 @@ array-share-prefix-order c = search needs
 
 slice-aggregate-follow : tie.Need-slice-aggregate-follow
 slice-aggregate-follow c =
-    sym (length-take-le (c .before .before .before .before .args .n) _ (omega (arith, c .before .rows-by-arrival .ensures .0, c .before .before .before .before .pre .1 .0)))
+    sym (length-take-le (c .before .before .before .before .args .n) _
+    (omega (arith, c .before .rows-by-arrival .ensures .0, c .before .before .before .before .pre .1 .0)))
 
 follow-requires : tie.Need-follow-requires
 follow-requires c κs =
@@ -28,8 +29,8 @@ follow-requires c κs =
     let r = c .before .rows-by-arrival in
     let order = r .last .1 .1 .1 .1 .0 in
     let l = length-take-le (a .n) order (omega (arith, r .ensures .0, p .1 .0)) in
-    let job = columns (a .release .now) (a .length .now) (a .due .now) in
-    let small = arrived-small job (a .n) order (p .1 .0) (r .ensures .0) (r .ensures .1 (a .length .now)) in
+    let job = columns (a .release .now) (a .minutes .now) (a .due .now) in
+    let small = arrived-small job (a .n) order (p .1 .0) (r .ensures .0) (r .ensures .1 (a .minutes .now)) in
     (p .0, (omega (arith, l, p .1 .1), omega (arith, l, p .1 .0), small))
 
 returns : tie.Need-returns
@@ -37,8 +38,9 @@ returns c =
     let a = c .before .before .before .before .before .args in
     let p = c .before .before .before .before .before .pre in
     let r = c .before .before .rows-by-arrival in
-    let job = columns (a .release .now) (a .length .now) (a .due .now) in
-    arrived-plan job (a .n) (r .last .1 .1 .1 .1 .0) (p .1 .0) (r .ensures .0) (r .ensures .1 (a .length .now)) (a .free) (c .follow .result) (c .follow .ensures)
+    let job = columns (a .release .now) (a .minutes .now) (a .due .now) in
+    arrived-plan job (a .n) (r .last .1 .1 .1 .1 .0) (p .1 .0) (r .ensures .0) (r .ensures .1 (a .minutes .now)) (a .free)
+    (c .follow .result) (c .follow .ensures)
 
 pub arrive-spec : {M : Type 1} → statement M
 arrive-spec =

@@ -22,7 +22,7 @@ array-write-lates c = search needs
 returns : tie.Need-returns
 returns c =
     let a = c .before .args in
-    let job = columns (a .release .now) (a .length .now) (a .due .now) in
+    let job = columns (a .release .now) (a .minutes .now) (a .due .now) in
     let zeros = replicate {A = ℕ} mostRows 0 in
     let size = length-replicate {A = ℕ} mostRows 0 in
     one-plan job (a .n) (a .free) (c .before .pre .1 .0) (c .arrive .result) (c .arrive .ensures) zeros zeros size size

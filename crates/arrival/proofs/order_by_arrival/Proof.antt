@@ -15,8 +15,9 @@ returns : tie.Need-returns
 returns c =
     let a = c .before .before .before .before .before .args in
     let p = c .before .before .before .before .before .pre in
-    let job = columns (a .release .now) (a .length .now) (a .due .now) in
-    arrival-unkept job (a .n) (a .free) (p .1 .0) (c .before .before .before .arrive .result) (c .before .before .before .arrive .ensures) (p .0) (a .bound) (a .out .now) (c .if1 .taken)
+    let job = columns (a .release .now) (a .minutes .now) (a .due .now) in
+    arrival-unkept job (a .n) (a .free) (p .1 .0) (c .before .before .before .arrive .result)
+    (c .before .before .before .arrive .ensures) (p .0) (a .bound) (a .out .now) (c .if1 .taken)
 
 write-rows-requires : tie.Need-write-rows-requires
 write-rows-requires c κs =
@@ -30,8 +31,11 @@ returns-2 : tie.Need-returns-2
 returns-2 c =
     let a = c .before .before .before .before .before .before .before .before .before .before .before .args in
     let p = c .before .before .before .before .before .before .before .before .before .before .before .pre in
-    let job = columns (a .release .now) (a .length .now) (a .due .now) in
-    arrival-given job (a .n) (a .free) (p .1 .0) (c .before .before .before .before .before .before .before .before .before .arrive .result) (c .before .before .before .before .before .before .before .before .before .arrive .ensures) (p .0) (a .bound) (a .out .now) (c .before .before .before .before .before .before .if1 .left) _ (c .before .before .write-rows .ensures)
+    let job = columns (a .release .now) (a .minutes .now) (a .due .now) in
+    arrival-given job (a .n) (a .free) (p .1 .0)
+    (c .before .before .before .before .before .before .before .before .before .arrive .result)
+    (c .before .before .before .before .before .before .before .before .before .arrive .ensures) (p .0) (a .bound) (a .out .now)
+    (c .before .before .before .before .before .before .if1 .left) _ (c .before .before .write-rows .ensures)
 
 pub order-by-arrival-spec : {M : Type 1} → statement M
 order-by-arrival-spec =

@@ -44,7 +44,8 @@ loop-again c =
     let l = c .before .before .loop in (
       search needs,
       search needs,
-      ap (λ (x : List ℕ). set x (l .k) (at (a .order .now) (l .k))) (l .inv .2) ∙ put-next (a .order .now) (a .out .now) (l .k) (omega arith) (omega arith),
+      ap (λ (x : List ℕ). set x (l .k) (at (a .order .now) (l .k))) (l .inv .2) ∙
+          put-next (a .order .now) (a .out .now) (l .k) (omega arith) (omega arith),
     )
 
 same-length : tie.Need-same-length Inv-loop μ-loop

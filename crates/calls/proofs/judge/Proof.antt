@@ -3,7 +3,7 @@
 use borrow.Author.Needs.{needs}
 use native.Mathlib.Omega.{arith}
 use lib.ListN.{take}
-use Rattle.schedule.proofs.Words.{lowered-word}
+use Rattle.schedule.proofs.SignedWords.{lowered-word}
 use Rattle.listing.specs.Fronts.{pairAt, pairsOf}
 use Rattle.calls.proofs.Answered.{judge-none, judge-some}
 use Rattle.calls.proofs.judge.Statement.{statement}

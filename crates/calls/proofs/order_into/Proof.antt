@@ -5,7 +5,7 @@ use native.Mathlib.Omega.{arith}
 use mathlib.Core.Path.{ap, _∙_}
 use lib.IntN.{ℤ}
 use Rattle.schedule.specs.Offset.{lowered}
-use Rattle.schedule.proofs.Words.{lowered-word}
+use Rattle.schedule.proofs.SignedWords.{lowered-word}
 use Rattle.calls.specs.declared.OrderAnswer.the-variants as order-answer
 use Rattle.calls.specs.Calls.{gives}
 use Rattle.calls.proofs.Answered.{order-short, order-unkept, order-kept}

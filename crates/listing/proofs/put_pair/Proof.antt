@@ -29,7 +29,8 @@ add-result c = omega (arith, c .pair-place .ensures, c .before .before .pre .1)
 returns : tie.Need-returns
 returns c =
     let a = c .before .before .args in
-    ap (λ (k : ℕ). record { count = k + 1; ends = set (a .ends .now) k (a .end); lates = set (a .lates .now) k (a .late) }) (c .pair-place .ensures)
+    ap (λ (k : ℕ). record { count = k + 1; ends = set (a .ends .now) k (a .end); lates = set (a .lates .now) k (a .late) })
+    (c .pair-place .ensures)
 
 pub put-pair-spec : {M : Type 1} → statement M
 put-pair-spec =

@@ -14,7 +14,7 @@ abbrev μ-loop : tie.MeasureT-loop
 μ-loop release by n ready₀ from t next₀ ready next = n - next
 
 loop-holds : tie.Need-loop-holds Inv-loop μ-loop
-loop-holds c = (c .pre .4 .place, λ length due rest k s. s)
+loop-holds c = (c .pre .4 .place, λ minutes due rest k s. s)
 
 mul-wide : tie.Need-mul-wide Inv-loop μ-loop
 mul-wide c = omega (arith, c .before .before .pre .3 .few)
@@ -33,8 +33,8 @@ element-copy-out-if1 c = omega (arith, next-high (c .before .before .before .bef
 
 returns : tie.Need-returns Inv-loop μ-loop
 returns c =
-    λ length due rest k s₀.
-    let s = c .before .before .before .before .before .loop .inv .1 length due rest k s₀ in
+    λ minutes due rest k s₀.
+    let s = c .before .before .before .before .before .loop .inv .1 minutes due rest k s₀ in
     (s, next-late k (c .before .before .before .before .loop-test .taken) (c .before .before .wide .ensures) s (c .if1 .taken))
 
 put-requires : tie.Need-put-requires Inv-loop μ-loop
@@ -52,13 +52,13 @@ loop-less c = search needs
 loop-again : tie.Need-loop-again Inv-loop μ-loop
 loop-again c = (
   omega (arith, c .before .before .before .before .before .before .loop-test .taken),
-  λ length due rest k s₀.
+  λ minutes due rest k s₀.
       next-put k (c .before .before .before .before .before .before .loop-test .taken) (c .before .before .before .before .wide .ensures)
-      (c .before .before .before .before .before .before .before .loop .inv .1 length due rest k s₀) (c .before .before .if1 .left) (c .put .ensures),
+      (c .before .before .before .before .before .before .before .loop .inv .1 minutes due rest k s₀) (c .before .before .if1 .left) (c .put .ensures),
 )
 
 returns-2 : tie.Need-returns-2 Inv-loop μ-loop
-returns-2 c = λ length due rest k s₀. let s = c .before .loop .inv .1 length due rest k s₀ in (s, late-past s (c .loop-test .left))
+returns-2 c = λ minutes due rest k s₀. let s = c .before .loop .inv .1 minutes due rest k s₀ in (s, late-past s (c .loop-test .left))
 
 pub advance-spec : {M : Type 1} → statement M
 advance-spec =

@@ -17,9 +17,9 @@ at-requires c κs = search needs
 
 returns : tie.Need-returns
 returns c = (
-  λ length due k.
+  λ minutes due k.
       let a = c .before .before .before .args in
-      started (c .before .before .before .pre .1) (c .at .ensures) (c .before .advance .ensures length due (countFrom 1 (a .n)) k (at-start k (a .free))),
+      started (c .before .before .before .pre .1) (c .at .ensures) (c .before .advance .ensures minutes due (countFrom 1 (a .n)) k (at-start k (a .free))),
   c .at .ensures,
   refl,
 )

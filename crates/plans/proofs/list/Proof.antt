@@ -21,8 +21,9 @@ list-by-arrival-requires c κs =
 returns : tie.Need-returns
 returns c =
     let a = c .before .before .before .args in
-    let job = columns (a .release .now) (a .length .now) (a .due .now) in
-    subst (λ (p : Profile). HoldsPlans (plansBy p job (a .free) (countFrom 1 (a .n))) (a .n) (c .list-by-arrival .result)) (sym (c .before .enum-told .given .1))
+    let job = columns (a .release .now) (a .minutes .now) (a .due .now) in
+    subst (λ (p : Profile). HoldsPlans (plansBy p job (a .free) (countFrom 1 (a .n))) (a .n) (c .list-by-arrival .result))
+    (sym (c .before .enum-told .given .1))
     (c .list-by-arrival .ensures)
 
 enum-told-2 : tie.Need-enum-told-2
@@ -32,15 +33,16 @@ list-by-rank-requires : tie.Need-list-by-rank-requires
 list-by-rank-requires c κs =
     let a = c .before .before .args in
     let p = c .before .before .pre in
-    let job = columns (a .release .now) (a .length .now) (a .due .now) in
+    let job = columns (a .release .now) (a .minutes .now) (a .due .now) in
     (p .0, (p .1 .0, p .1 .1, p .1 .2, subst (λ (p : Profile). Obeys p job (countFrom 1 (a .n))) (c .enum-told2 .given .1) (p .1 .3)))
 
 returns-2 : tie.Need-returns-2
 unfolding plansBy
 returns-2 c =
     let a = c .before .before .before .args in
-    let job = columns (a .release .now) (a .length .now) (a .due .now) in
-    subst (λ (p : Profile). HoldsPlans (plansBy p job (a .free) (countFrom 1 (a .n))) (a .n) (c .list-by-rank .result)) (sym (c .before .enum-told2 .given .1))
+    let job = columns (a .release .now) (a .minutes .now) (a .due .now) in
+    subst (λ (p : Profile). HoldsPlans (plansBy p job (a .free) (countFrom 1 (a .n))) (a .n) (c .list-by-rank .result))
+    (sym (c .before .enum-told2 .given .1))
     (c .list-by-rank .ensures)
 
 pub list-spec : {M : Type 1} → statement M

@@ -19,7 +19,8 @@ list-ranked-requires c κs =
 returns : tie.Need-returns
 returns c =
     let p = c .before .before .before .before .before .before .before .before .before .before .before .pre in
-    listed-ranked (c .before .before .before .before .before .tables .ensures) (p .0) (p .1 .0) (p .1 .1) _ (p .1 .2) (p .1 .3) _ (c .list-ranked .ensures)
+    listed-ranked (c .before .before .before .before .before .tables .ensures) (p .0) (p .1 .0) (p .1 .1) _ (p .1 .2) (p .1 .3) _
+    (c .list-ranked .ensures)
 
 pub list-by-rank-spec : {M : Type 1} → statement M
 list-by-rank-spec = tie.close (tie.spec tables-requires list-ranked-requires returns)

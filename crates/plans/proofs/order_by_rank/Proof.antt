@@ -19,23 +19,30 @@ plan-for-requires c κs =
 
 returns : tie.Need-returns
 returns c =
-    let p = c .before .before .before .before .before .before .before .before .before .before .before .before .before .before .before .pre in
-    ordered-over (c .before .before .before .before .before .before .before .before .tables .ensures) (p .0) (p .1 .0) (p .1 .1) _ _ _ _ _ (c .before .before .plan-for .ensures) (c .if1 .taken)
+    let w = c .before .before in
+    let t = w .before .before .before .before .before .before .tables .ensures in
+    let p = w .before .before .before .before .before .before .before .before .before .before .before .before .before .pre in
+    ordered-over t (p .0) (p .1 .0) (p .1 .1) _ _ _ _ _ (w .plan-for .ensures) (c .if1 .taken)
 
 write-order-requires : tie.Need-write-order-requires
 write-order-requires c κs =
-    let a = c .before .before .before .before .before .before .before .before .before .before .before .before .before .before .before .before .before .before .args in
-    let p = c .before .before .before .before .before .before .before .before .before .before .before .before .before .before .before .before .before .before .pre in
-    let s = c .before .before .before .before .before .plan-for .ensures in
-    (p .1 .1, p .1 .3, s .places, ranks-high (c .before .before .before .before .before .before .before .before .before .before .before .tables .ensures) (p .0) (p .1 .0) (p .1 .1) _ _ (a .out .now) _ _ s (c .before .before .before .if1 .left))
+    let w = c .before .before .before .before .before in
+    let t = w .before .before .before .before .before .before .tables .ensures in
+    let a = w .before .before .before .before .before .before .before .before .before .before .before .before .before .args in
+    let p = w .before .before .before .before .before .before .before .before .before .before .before .before .before .pre in
+    let s = w .plan-for .ensures in
+    (p .1 .1, p .1 .3, s .places, ranks-high t (p .0) (p .1 .0) (p .1 .1) _ _ (a .out .now) _ _ s (c .before .before .before .if1 .left))
 
 same-length : tie.Need-same-length
 same-length c = search needs
 
 returns-2 : tie.Need-returns-2
 returns-2 c =
-    let p = c .before .before .before .before .before .before .before .before .before .before .before .before .before .before .before .before .before .before .before .before .before .pre in
-    ordered-kept (c .before .before .before .before .before .before .before .before .before .before .before .before .before .before .tables .ensures) (p .0) (p .1 .0) (p .1 .1) _ _ _ _ _ (c .before .before .before .before .before .before .before .before .plan-for .ensures) (c .before .before .before .before .before .before .if1 .left) _ (c .before .before .write-order .ensures)
+    let w = c .before .before .before .before .before .before .before .before in
+    let t = w .before .before .before .before .before .before .tables .ensures in
+    let p = w .before .before .before .before .before .before .before .before .before .before .before .before .before .pre in
+    let low = c .before .before .before .before .before .before .if1 .left in
+    ordered-kept t (p .0) (p .1 .0) (p .1 .1) _ _ _ _ _ (w .plan-for .ensures) low _ (c .before .before .write-order .ensures)
 
 pub order-by-rank-spec : {M : Type 1} → statement M
 order-by-rank-spec =

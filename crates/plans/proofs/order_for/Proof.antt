@@ -24,8 +24,9 @@ returns : tie.Need-returns
 unfolding orderBy
 returns c =
     let a = c .before .before .before .before .before .before .before .args in
-    let job = columns (a .release .now) (a .length .now) (a .due .now) in
-    given-by job (a .free) (countFrom 1 (a .n)) (a .bound) (a .profile) FirstCome (c .before .before .before .before .enum-told .given .1) _ _ _ (c .before .before .order-by-arrival .ensures)
+    let job = columns (a .release .now) (a .minutes .now) (a .due .now) in
+    given-by job (a .free) (countFrom 1 (a .n)) (a .bound) (a .profile) FirstCome
+    (c .before .before .before .before .enum-told .given .1) _ _ _ (c .before .before .order-by-arrival .ensures)
 
 enum-told-2 : tie.Need-enum-told-2
 enum-told-2 c = search needs
@@ -40,8 +41,9 @@ returns-2 : tie.Need-returns-2
 unfolding orderBy
 returns-2 c =
     let a = c .before .before .before .before .before .before .before .args in
-    let job = columns (a .release .now) (a .length .now) (a .due .now) in
-    given-by job (a .free) (countFrom 1 (a .n)) (a .bound) (a .profile) Ordering (c .before .before .before .before .enum-told2 .given .1) _ _ _ (c .before .before .order-by-rank .ensures)
+    let job = columns (a .release .now) (a .minutes .now) (a .due .now) in
+    given-by job (a .free) (countFrom 1 (a .n)) (a .bound) (a .profile) Ordering
+    (c .before .before .before .before .enum-told2 .given .1) _ _ _ (c .before .before .order-by-rank .ensures)
 
 pub order-for-spec : {M : Type 1} → statement M
 order-for-spec =

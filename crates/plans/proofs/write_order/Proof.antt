@@ -53,7 +53,8 @@ loop-again c =
     let l = c .before .before .before .loop in (
       search needs,
       search needs,
-      ap (λ (x : List ℕ). set x (l .i) (at (a .rows .now) (at (a .order .now) (l .i)))) (l .inv .2) ∙ write-next (at (a .rows .now)) (a .order .now) (a .out .now) (l .i) (omega arith) (omega arith),
+      ap (λ (x : List ℕ). set x (l .i) (at (a .rows .now) (at (a .order .now) (l .i)))) (l .inv .2) ∙
+          write-next (at (a .rows .now)) (a .order .now) (a .out .now) (l .i) (omega arith) (omega arith),
     )
 
 same-length : tie.Need-same-length Inv-loop μ-loop

@@ -9,7 +9,7 @@ use mir.Val.{SFits, toZ, ofZ}
 use mir.ValLaws.{toZ-ofZ}
 use mir.Facts.{sfits-widen}
 use Rattle.schedule.specs.Offset.{lowered}
-use Rattle.schedule.proofs.Words.{lowered-is, lowered-fits}
+use Rattle.schedule.proofs.SignedWords.{lowered-is, lowered-fits}
 use Rattle.schedule.proofs.lower.Statement.{statement}
 use Rattle.schedule.proofs.lower.Tie as tie
 

@@ -9,7 +9,7 @@ use mir.Syntax.{w32, w64}
 use mir.Val.{SFits, Fits, toZ, ofZ}
 use mir.ValLaws.{toZ-ofZ}
 use Rattle.schedule.specs.Offset.{raised}
-use Rattle.schedule.proofs.Words.{widened, widens, raised-is, raised-fits}
+use Rattle.schedule.proofs.SignedWords.{widened, widens, raised-is, raised-fits}
 use Rattle.schedule.proofs.raise.Statement.{statement}
 use Rattle.schedule.proofs.raise.Tie as tie
 

@@ -14,8 +14,21 @@ block-on-requires : tie.Need-block-on-requires
 block-on-requires c κs =
     let p = c .before .before .before .before .pre in
     let g = p .1 .1 .0 in
-    let q = c .before .picks .ensures _ _ _ (p .1 .0) (g .1 .stands) (g .1 .late) in
-    (p .0, (p .1 .0, ((_, g .1, first-mem _ _ _ (p .1 .0) _ _ (g .1) _ (q .0) (torn-first _ _ _ (p .1 .0) _ _ (g .1) _ _ (q .0) (q .1) (g .2))), p .1 .1 .1)))
+    let q = c .before .picks .ensures _ _ _ (p .1 .0) (g .1 .stands) (g .1 .late) in (
+      p .0,
+      (
+        p .1 .0,
+        (
+          (
+            _,
+            g .1,
+            first-mem _ _ _ (p .1 .0) _ _ (g .1) _ (q .0)
+                (torn-first _ _ _ (p .1 .0) _ _ (g .1) _ _ (q .0) (q .1) (g .2)),
+          ),
+          p .1 .1 .1,
+        ),
+      ),
+    )
 
 returns : tie.Need-returns
 returns c = λ rest g torn.
@@ -29,8 +42,21 @@ block-on-requires-2 c κs =
     let p = c .before .before .before .before .before .before .before .before .pre in
     let g = p .1 .1 .0 in
     let q = c .before .before .before .before .before .picks .ensures _ _ _ (p .1 .0) (g .1 .stands) (g .1 .late) in
-    let m = first-mem _ _ _ (p .1 .0) _ _ (g .1) _ (q .0) (torn-first _ _ _ (p .1 .0) _ _ (g .1) _ _ (q .0) (q .1) (g .2)) in
-    (p .0, (p .1 .0, ((_, g .1, second-mem _ _ _ (p .1 .0) _ _ (g .1) _ (q .1) (torn-second _ _ _ (p .1 .0) _ _ (g .1) _ _ (q .0) (q .1) (g .2))), c .before .before .before .block-on .ensures _ (g .1) m .1 .places)))
+    let m = first-mem _ _ _ (p .1 .0) _ _ (g .1) _ (q .0) (torn-first _ _ _ (p .1 .0) _ _ (g .1) _ _ (q .0) (q .1) (g .2)) in (
+      p .0,
+      (
+        p .1 .0,
+        (
+          (
+            _,
+            g .1,
+            second-mem _ _ _ (p .1 .0) _ _ (g .1) _ (q .1)
+                (torn-second _ _ _ (p .1 .0) _ _ (g .1) _ _ (q .0) (q .1) (g .2)),
+          ),
+          c .before .before .before .block-on .ensures _ (g .1) m .1 .places,
+        ),
+      ),
+    )
 
 returns-2 : tie.Need-returns-2
 returns-2 c = λ rest g torn.
@@ -38,7 +64,8 @@ returns-2 c = λ rest g torn.
     let q = c .before .before .before .before .before .before .picks .ensures _ _ _ (p .1 .0) (g .stands) (g .late) in
     let m = first-mem _ _ _ (p .1 .0) _ _ g _ (q .0) (torn-first _ _ _ (p .1 .0) _ _ g _ _ (q .0) (q .1) torn) in
     let k = second-mem _ _ _ (p .1 .0) _ _ g _ (q .1) (torn-second _ _ _ (p .1 .0) _ _ g _ _ (q .0) (q .1) torn) in
-    stepped-two _ _ _ _ rest _ _ _ (q .0) _ _ (c .before .before .before .before .block-on .ensures rest g m) (c .before .before .if1 .left) _ (q .1) _ _ (c .block-on2 .ensures rest g k)
+    stepped-two _ _ _ _ rest _ _ _ (q .0) _ _ (c .before .before .before .before .block-on .ensures rest g m)
+    (c .before .before .if1 .left) _ (q .1) _ _ (c .block-on2 .ensures rest g k)
 
 pub next-block-spec : {M : Type 1} → statement M
 next-block-spec =

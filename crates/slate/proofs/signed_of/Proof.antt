@@ -9,7 +9,7 @@ use mir.Syntax.{w32}
 use mir.Val.{toZ, ofZ}
 use mir.ValLaws.{toZ-ofZ}
 use Rattle.schedule.specs.Offset.{lowered}
-use Rattle.schedule.proofs.Words.{lowered-fits}
+use Rattle.schedule.proofs.SignedWords.{lowered-fits}
 use Rattle.slate.proofs.Standing.{signed-below, signed-above}
 use Rattle.slate.proofs.signed_of.Statement.{statement}
 use Rattle.slate.proofs.signed_of.Tie as tie

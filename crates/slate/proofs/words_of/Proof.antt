@@ -9,7 +9,7 @@ use mathlib.Core.List.{_++_}
 use native.Mathlib.Omega.{arith}
 use lib.ListN.{length, take, drop, length-set, length-drop}
 use Rattle.slate.specs.Input.{wordsIn}
-use Rattle.slate.proofs.Words.{short, no-more, taken, done}
+use Rattle.slate.proofs.InputWords.{short, no-more, taken, done}
 
 abbrev Inv-loop : tie.InvT-loop
 Inv-loop input words₀ k₀ words k =

@@ -41,8 +41,12 @@ loop-less c = search needs
 
 loop-again : tie.Need-loop-again Inv-loop μ-loop
 loop-again c =
-    let l = c .before .before .before .loop in
-    (omega (arith, l .inv .0), past-next (c .before .before .before .before .args .trail .now) (c .before .before .before .before .args .bound) (c .before .before .before .before .args .depth) (l .k) (l .inv .0) (l .inv .1) (omega arith) (c .if1 .left))
+    let l = c .before .before .before .loop in (
+      omega (arith, l .inv .0),
+      past-next (c .before .before .before .before .args .trail .now)
+          (c .before .before .before .before .args .bound) (c .before .before .before .before .args .depth) (l .k) (l .inv .0) (l .inv .1)
+          (omega arith) (c .if1 .left),
+    )
 
 returns-2 : tie.Need-returns-2 Inv-loop μ-loop
 returns-2 c =

@@ -15,10 +15,13 @@ use Rattle.trail.proofs.onward.Tie as tie
 use Rattle.trail.proofs.Coming.{here-torn, here-room, came-next, ended-over, ended-all}
 
 abbrev Inv-loop : tie.InvT-loop
-Inv-loop release length due by n from bound order₀ trail₀ s₀ d₀ order trail s d = (L.length order ≡ mostRows) × (L.length trail ≡ L.length trail₀) × ((free : ℕ) → Came n (columns release length due) (at by) free bound trail₀ from s₀ → Came n (columns release length due) (at by) free bound trail d s)
+Inv-loop release minutes due by n from bound order₀ trail₀ s₀ d₀ order trail s d = (L.length order ≡ mostRows) ×
+    (L.length trail ≡ L.length trail₀) ×
+    ((free : ℕ) → Came n (columns release minutes due) (at by) free bound trail₀ from s₀ →
+    Came n (columns release minutes due) (at by) free bound trail d s)
 
 abbrev μ-loop : tie.MeasureT-loop
-μ-loop release length due by n from bound order₀ trail₀ s₀ d₀ order trail s d = n - s .count
+μ-loop release minutes due by n from bound order₀ trail₀ s₀ d₀ order trail s d = n - s .count
 
 loop-holds : tie.Need-loop-holds Inv-loop μ-loop
 loop-holds c = (c .pre .1 .1 .0, refl, λ free g. g)
@@ -28,16 +31,22 @@ same-length c = search needs
 
 returns : tie.Need-returns Inv-loop μ-loop
 returns c =
-    let l = c .before .before .loop in
-    (l .inv .0, omega (arith, l .inv .1, c .before .before .before .pre .1 .1 .1), λ free g. ended-over _ _ _ (c .before .before .before .pre .0) free _ _ _ _ (l .inv .2 free g) (c .if1 .taken))
+    let l = c .before .before .loop in (
+      l .inv .0,
+      omega (arith, l .inv .1, c .before .before .before .pre .1 .1 .1),
+      λ free g. ended-over _ _ _ (c .before .before .before .pre .0) free _ _ _ _ (l .inv .2 free g) (c .if1 .taken),
+    )
 
 same-length-2 : tie.Need-same-length-2 Inv-loop μ-loop
 same-length-2 c = search needs
 
 returns-2 : tie.Need-returns-2 Inv-loop μ-loop
 returns-2 c =
-    let l = c .before .before .before .before .loop in
-    (l .inv .0, omega (arith, l .inv .1, c .before .before .before .before .before .pre .1 .1 .1), λ free g. ended-all _ _ _ (c .before .before .before .before .before .pre .0) free _ _ _ _ (l .inv .2 free g) (c .if2 .taken))
+    let l = c .before .before .before .before .loop in (
+      l .inv .0,
+      omega (arith, l .inv .1, c .before .before .before .before .before .pre .1 .1 .1),
+      λ free g. ended-all _ _ _ (c .before .before .before .before .before .pre .0) free _ _ _ _ (l .inv .2 free g) (c .if2 .taken),
+    )
 
 next-block-requires : tie.Need-next-block-requires Inv-loop μ-loop
 next-block-requires c κs =
@@ -52,7 +61,8 @@ words-of-requires c κs = search needs
 mul-t17 : tie.Need-mul-t17 Inv-loop μ-loop
 mul-t17 c =
     let p = c .before .before .before .before .before .before .before .before .pre in
-    let h = c .before .before .before .before .before .before .before .loop .inv .2 (p .1 .1 .2 .0) (p .1 .1 .2 .1) .kept (c .before .before .before .before .before .if1 .left) in
+    let h = c .before .before .before .before .before .before .before .loop .inv .2 (p .1 .1 .2 .0) (p .1 .1 .2 .1) .kept
+    (c .before .before .before .before .before .if1 .left) in
     record { fits = omega (arith, here-room _ _ _ (p .0) _ _ _ _ _ h (c .before .before .before .if2 .left), p .1 .0 .few) }
 
 slice-set-from-trail : tie.Need-slice-set-from-trail Inv-loop μ-loop
@@ -65,14 +75,20 @@ slice-set-from-trail c =
 add-d : tie.Need-add-d Inv-loop μ-loop
 add-d c =
     let p = c .before .before .before .before .before .before .before .before .before .pre in
-    let h = c .before .before .before .before .before .before .before .before .loop .inv .2 (p .1 .1 .2 .0) (p .1 .1 .2 .1) .kept (c .before .before .before .before .before .before .if1 .left) in
+    let h = c .before .before .before .before .before .before .before .before .loop .inv .2 (p .1 .1 .2 .0) (p .1 .1 .2 .1) .kept
+    (c .before .before .before .before .before .before .if1 .left) in
     record { fits = omega (arith, here-room _ _ _ (p .0) _ _ _ _ _ h (c .before .before .before .before .if2 .left), p .1 .0 .few) }
 
 loop-less : tie.Need-loop-less Inv-loop μ-loop
 loop-less c =
     let p = c .before .before .before .before .before .before .before .before .before .pre in
-    let h = c .before .before .before .before .before .before .before .before .loop .inv .2 (p .1 .1 .2 .0) (p .1 .1 .2 .1) .kept (c .before .before .before .before .before .before .if1 .left) in
-    omega (arith, c .before .before .next-block .ensures _ (h .way .sits) (here-torn _ _ _ (p .0) _ _ _ _ _ h (c .before .before .before .before .if2 .left)) .counts)
+    let h = c .before .before .before .before .before .before .before .before .loop .inv .2 (p .1 .1 .2 .0) (p .1 .1 .2 .1) .kept
+    (c .before .before .before .before .before .before .if1 .left) in
+    omega (
+      arith,
+      c .before .before .next-block .ensures _ (h .way .sits)
+          (here-torn _ _ _ (p .0) _ _ _ _ _ h (c .before .before .before .before .if2 .left)) .counts,
+    )
 
 loop-again : tie.Need-loop-again Inv-loop μ-loop
 loop-again c =
@@ -81,7 +97,7 @@ loop-again c =
     let l = c .before .before .before .before .before .before .before .before .loop in
     let low = c .before .before .before .before .before .before .if1 .left in
     let more = c .before .before .before .before .if2 .left in
-    let job = columns (a .release .now) (a .length .now) (a .due .now) in
+    let job = columns (a .release .now) (a .minutes .now) (a .due .now) in
     let h = l .inv .2 (p .1 .1 .2 .0) (p .1 .1 .2 .1) .kept low in
     let b = c .before .before .next-block .result in (
       c .before .before .next-block .ensures _ (h .way .sits) (here-torn _ _ _ (p .0) _ _ _ _ _ h more) .places,
@@ -89,8 +105,11 @@ loop-again c =
       λ free g.
           let h = l .inv .2 free g .kept low in
           let torn = here-torn _ _ _ (p .0) free _ _ _ _ h more in
-          subst (λ (w : List ℕ). Came (a .n) job (at (a .by .now)) free (a .bound) (set (l .trail) (l .d) w) (l .d + 1) (b .after)) (sym (c .before .words-of .ensures (h .way .sits .stands .words .size)))
-          (came-next _ _ _ (p .0) free _ _ _ _ (h .done) (h .rest) (h .way) torn low (h .place) (omega (arith, l .inv .1, p .1 .1 .1, here-room _ _ _ (p .0) _ _ _ _ _ h more)) (h .held) _ b _ (c .before .before .next-block .ensures _ (h .way .sits) torn)),
+          subst (λ (w : List ℕ). Came (a .n) job (at (a .by .now)) free (a .bound) (set (l .trail) (l .d) w) (l .d + 1) (b .after))
+          (sym (c .before .words-of .ensures (h .way .sits .stands .words .size)))
+          (came-next _ _ _ (p .0) free _ _ _ _ (h .done) (h .rest) (h .way) torn low (h .place)
+          (omega (arith, l .inv .1, p .1 .1 .1, here-room _ _ _ (p .0) _ _ _ _ _ h more)) (h .held) _ b _
+          (c .before .before .next-block .ensures _ (h .way .sits) torn)),
     )
 
 pub onward-spec : {M : Type 1} → statement M

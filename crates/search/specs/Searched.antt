@@ -21,6 +21,7 @@ module _ (job : ℕ → Job) where
   -- The whole outcome of the search for the order for a bound: the desk after it and the order; or that the bound is unkept.
   pub record Searched (n free bound : ℕ) (r : Standing) (order : List ℕ) : Type 0 where
     pub kept : r .desk .worst ≤ bound →
-        (orderAtRaised n free bound ≡ some (take n order)) × (r .desk ≡ deskThrough job (deskAt free) (take n order)) × (r .desk .worst ≤ latestRaised)
+        (orderAtRaised n free bound ≡ some (take n order)) × (r .desk ≡ deskThrough job (deskAt free) (take n order)) ×
+        (r .desk .worst ≤ latestRaised)
     pub over : bound < r .desk .worst → orderAtRaised n free bound ≡ none
     pub places : length order ≡ mostRows

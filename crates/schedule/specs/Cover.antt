@@ -1,4 +1,4 @@
--- Property 3 of the definitions: what is promised of any rows in agreement, from any minute on. Its proof is `promised`, in proofs/Promise.antt.
+-- Property 3 of the definitions: what is promised of any rows in agreement, from any minute on. Its proof is `promised`, in proofs/Cover.antt.
 -- Rests on: Desk, Picks, Plans.
 use Prim.Native.Nat.{ℕ, _+_, _≤_, _<_}
 use mathlib.Core.Bool.{not}
@@ -32,7 +32,7 @@ Fits32 job t left = (order : List ℕ) → OrderOf left order →
 
 -- `orders` gives the order for each bound, or none.
 module _ (job : ℕ → Job) (t : ℕ) (left : List ℕ) (orders : ℤ → Option (List ℕ)) where
-  pub record Promise : Type 0 where
+  pub record PlansPromise : Type 0 where
     -- The order for a bound is an order of the rows, keeps the bound, and ends no later than any order that keeps it.
     pub best : (y : ℤ) (order : List ℕ) → orders y ≡ some order →
         OrderOf left order × (pairOf job t order .late ≤ℤ y) ×
@@ -54,7 +54,7 @@ module _ (job : ℕ → Job) (t : ℕ) (left : List ℕ) (orders : ℤ → Optio
 
 -- The whole of property 3, for rows that agree. (Of no rows at all there is one plan, of the empty order: so at least one row.)
 abbrev pub Promised : Type 0
-Promised = (job : ℕ → Job) (t : ℕ) (left : List ℕ) → Agreeing job left → 0 < length left → Promise job t left (orderFor job t left)
+Promised = (job : ℕ → Job) (t : ℕ) (left : List ℕ) → Agreeing job left → 0 < length left → PlansPromise job t left (orderFor job t left)
 
 -- Asking for ever smaller bounds gives the list, where every lateness is a signed 32-bit number.
 abbrev pub SameList : Type 0

@@ -1,4 +1,5 @@
--- Answers of rows as they are: an order with its pair, the desk after a posting, and the one plan by arrival. Latenesses and bounds are raised by 2³¹.
+-- Answers of rows as they are: an order with its pair, the desk after a posting, and the one plan by arrival.
+-- Latenesses and bounds are raised by 2³¹.
 -- (The list's outcome is `HoldsPlans`, beside the list itself.) Rests on: the search's answers, and the schedule's arrival.
 use Prim.Native.Nat.{ℕ, _≤_}
 use mathlib.Core.Path.{_≡_}
@@ -15,7 +16,7 @@ use Rattle.schedule.specs.Offset.{raised, deskAt}
 use Rattle.listing.specs.declared.Planned.{Planned}
 use Rattle.arrival.specs.declared.Plan.{Plan}
 use Rattle.search.specs.Taking.{deskThrough}
-use Rattle.listing.specs.Answers.{Bounded, plannedOf}
+use Rattle.listing.specs.PlanFor.{Bounded, plannedOf}
 
 -- The buffer b with an order written to its front.
 unfoldable pub writtenOf : Option (List ℕ) → List ℕ → List ℕ

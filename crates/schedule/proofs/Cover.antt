@@ -13,7 +13,7 @@ use Rattle.theory.specs.Jobs.{Job}
 use Rattle.schedule.specs.Desk.{Pair, OrderOf, Attains, pairOf, endOf, keeps}
 use Rattle.schedule.specs.Plans.{beats, attained, plans}
 use Rattle.schedule.specs.Picks.{orderFor}
-use Rattle.schedule.specs.Promise.{Rising, Promise, Promised, SameList}
+use Rattle.schedule.specs.Cover.{Rising, PlansPromise, Promised, SameList}
 use Rattle.schedule.proofs.Signed.{_≼_, leZ→, →leZ, →ltZ}
 use Rattle.schedule.proofs.Orders.{perm-orders, orders-perm}
 use Rattle.schedule.proofs.Front.{above-mem, plans-sound, plans-complete, plans-rising}
@@ -64,7 +64,7 @@ module _ {job : ℕ → Job} {t : ℕ} {left : List ℕ} (a : Plannable job t le
   kept : (y : ℤ) (order : List ℕ) → OrderOf left order → pairOf job t order .late ≤ℤ y → T (keeps job y t order)
   kept y order o k = kept-pair a y order (tried left o) (leZ→ (pairOf job t order .late) y (k .le))
 
-  holds : Promise job t left (orderFor job t left)
+  holds : PlansPromise job t left (orderFor job t left)
   holds = record {
     best = λ y order e. let b = best-for a y order e in (
       whole left (b .whole),

@@ -11,7 +11,7 @@ use Rattle.schedule.specs.Limits.{latestRaised}
 use Rattle.schedule.specs.declared.Desk.{Desk}
 use Rattle.schedule.specs.Desk.{endOf, pairOf}
 use Rattle.schedule.specs.Offset.{raised}
-use Rattle.search.specs.Answers.{orderAtRaised}
+use Rattle.search.specs.Searched.{orderAtRaised}
 use Rattle.listing.specs.declared.Planned.{Planned}
 use Rattle.listing.specs.declared.Planned.the-variants.{Kept, Unkept}
 

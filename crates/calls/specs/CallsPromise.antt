@@ -17,7 +17,7 @@ use Rattle.schedule.specs.Limits.{mostRows, latestBookEnd, leastLateness}
 use Rattle.schedule.specs.Rows.{row, Day, jobs, rowNumbers}
 use Rattle.schedule.specs.Desk.{Pair, OrderOf, Attains, pairOf, endOf}
 use Rattle.schedule.specs.Plans.{beats, plans}
-use Rattle.schedule.specs.Promise.{Rising}
+use Rattle.schedule.specs.Cover.{Rising}
 use Rattle.row_reader.specs.Due.{ClassDue}
 use Rattle.book.specs.Rows.{accepted}
 use Rattle.readers.specs.declared.Terms.{Terms}
