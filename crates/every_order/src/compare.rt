@@ -1,5 +1,6 @@
 // The offered calls against the pairs of every order.
 use crate::asked;
+use crate::asked::Answer;
 use crate::day;
 use crate::day::Day;
 use crate::orders;
@@ -9,12 +10,12 @@ use crate::tally;
 use crate::tally::Tally;
 
 // An answer that is right, or a difference: what was asked is l for the list, o for the order of a plan, f for that for a bound, j for a verdict.
-fn checked(t: Tally, is_right: bool, what: u8, asked: u32, day: Day) -> Tally {
+fn checked(t: Tally, is_right: bool, what: u8, asked: u32) -> Tally {
     if is_right {
         return t;
     }
-    let numbers = day.numbers;
-    say::difference(what, asked, &numbers);
+    let counts = t.counts;
+    say::difference(counts[tally::BOOKS], what, asked);
     tally::add(t, tally::DIFFERENCES, 1)
 }
 
@@ -39,107 +40,14 @@ fn counted(t: Tally, day: Day, front: Front) -> Tally {
     tally::add(u, tally::ORDERS, orders::how_many(day.count))
 }
 
-// The words of a list are those of the pairs.
-fn same_pairs(words: &[u32], front: Front) -> bool {
+// The first pair with an end and a worst lateness no greater, or the count.
+fn first_within(front: Front, end: u32, late: u32) -> usize {
     let ends = front.ends;
-    let lates = front.lates;
-    let count = day::at_most(front.count, 8);
-    let mut k: usize = 0;
-    while k < count {
-        let late = std::num::wrapping_sub_u32(lates[k], orders::RAISE);
-        if day::number_at(words, 2 * k) != ends[k] {
-            return false;
-        }
-        if day::number_at(words, 2 * k + 1) != late {
-            return false;
-        }
-        k += 1;
-    }
-    front.count <= 8
-}
-
-fn list(book: &[u32], day: Day, front: Front, t: Tally) -> Tally {
-    let mut words = [0u32; 16];
-    let a = asked::list(book, &mut words);
-    let is_right = (a.number == 0) & (a.place == front.count) & same_pairs(&words, front);
-    checked(t, is_right, b'l', 0, day)
-}
-
-// A row stands among the first ones.
-fn has_row(rows: [u32; 8], count: usize, row: u32) -> bool {
-    let most = day::at_most(count, 8);
-    let mut k: usize = 0;
-    while k < most {
-        if rows[k] == row {
-            return true;
-        }
-        k += 1;
-    }
-    false
-}
-
-// Each of n rows stands once among n, counted from 1.
-fn is_order(rows: [u32; 8], n: usize) -> bool {
-    let count = day::at_most(n, 8) as u32;
-    let mut row: u32 = 0;
-    while row < count {
-        row += 1;
-        if !has_row(rows, n, row) {
-            return false;
-        }
-    }
-    true
-}
-
-// The rows are an order, and it attains the pair.
-fn attains(day: Day, rows: [u32; 8], end: u32, late: u32) -> bool {
-    let pair = orders::pair_of(day, rows);
-    is_order(rows, day.count) & (pair.end == end) & (pair.late == late)
-}
-
-// The order of a plan of the list.
-fn plan(book: &[u32], day: Day, front: Front, k: usize, t: Tally) -> Tally {
-    let ends = front.ends;
-    let lates = front.lates;
-    let number = (k % 16) as u32 + 1;
-    let mut rows = [0u32; 8];
-    let a = asked::plan(book, number, &mut rows);
-    let is_right = (a.number == 0) & (a.end == ends[k % 16]) & (a.late == lates[k % 16]);
-    let u = checked(
-        t,
-        is_right & attains(day, rows, a.end, a.late),
-        b'o',
-        number,
-        day,
-    );
-    tally::add(u, tally::LISTED, 1)
-}
-
-// A number that no plan has is refused 11, with the count of plans as place.
-fn no_plan(book: &[u32], day: Day, front: Front, k: u32, t: Tally) -> Tally {
-    let mut rows = [0u32; 8];
-    let a = asked::plan(book, k, &mut rows);
-    checked(t, (a.number == 11) & (a.place == front.count), b'o', k, day)
-}
-
-fn plans(book: &[u32], day: Day, front: Front, t: Tally) -> Tally {
-    let mut u = no_plan(book, day, front, 0, t);
-    let count = day::at_most(front.count, 16);
-    let mut k: usize = 0;
-    while k < count {
-        u = plan(book, day, front, k, u);
-        k += 1;
-    }
-    no_plan(book, day, front, k as u32 + 1, u)
-}
-
-// The first pair whose worst lateness is at most the bound, or the count.
-fn first_kept(front: Front, bound: u32) -> usize {
     let lates = front.lates;
     let count = day::at_most(front.count, 16);
     let mut k: usize = 0;
     while k < count {
-        if lates[k] <= bound {
+        if (ends[k] <= end) & (lates[k] <= late) {
             return k;
         }
         k += 1;
@@ -147,27 +55,69 @@ fn first_kept(front: Front, bound: u32) -> usize {
     front.count
 }
 
-// The order for a bound, raised, keeps it and ends as soon as any order that keeps it; refused 12 where none does.
-fn bound(book: &[u32], day: Day, front: Front, y: u32, t: Tally) -> Tally {
-    let k = first_kept(front, y);
-    let ends = front.ends;
-    let mut rows = [0u32; 8];
-    let a = asked::bound(book, y, &mut rows);
-    let u = tally::add(t, tally::BOUNDS, 1);
-    if a.number != 0 {
-        let v = tally::add(u, tally::UNKEPT, 1);
-        return checked(v, (a.number == 12) & (k == front.count), b'f', y, day);
-    }
-    let is_kept = (k < front.count) & (a.end == ends[k % 16]) & (a.late <= y);
-    checked(u, is_kept & attains(day, rows, a.end, a.late), b'f', y, day)
+// The rows are an order of all rows, and it attains the pair.
+fn attains(day: Day, rows: [u32; 8], end: u32, late: u32) -> bool {
+    let pair = orders::pair_of(day, rows);
+    let all = std::num::wrapping_sub_u32(2 << (day.count % 9) as u32, 2);
+    (pair.taken == all) & (pair.end == end) & (pair.late == late)
 }
 
-// Bounds at the lateness of a pair, one below, one above, and half way to that of the next.
-fn bounds_at(book: &[u32], day: Day, front: Front, k: usize, t: Tally) -> Tally {
+// An order for a bound, raised, keeps it and ends as soon as any order that keeps it; refused with the number where none does.
+fn is_right(day: Day, front: Front, a: Answer, rows: [u32; 8], y: u32, number: u32) -> bool {
+    let ends = front.ends;
+    let k = first_within(front, 4_294_967_295, y);
+    if a.number != 0 {
+        return (a.number == number) & (k == front.count);
+    }
+    let is_kept = (k < front.count) & (a.end == ends[k % 16]) & (a.late <= y);
+    is_kept & attains(day, rows, a.end, a.late)
+}
+
+// The order for a bound.
+fn bound(book: &[u32], day: Day, front: Front, y: u32, t: Tally) -> Tally {
+    let mut rows = [0u32; 8];
+    let a = asked::bound(book, y, &mut rows);
+    let mut u = tally::add(t, tally::BOUNDS, 1);
+    u = tally::add_if(u, tally::UNKEPT, a.number != 0);
+    checked(u, is_right(day, front, a, rows, y, 12), b'f', y)
+}
+
+// The order of a plan, which is the order for its own worst lateness. A number that no plan has is refused 11, with the count of plans as place.
+fn plan(book: &[u32], day: Day, front: Front, k: u32, late: u32, t: Tally) -> Tally {
+    let mut rows = [0u32; 8];
+    let a = asked::plan(book, k, &mut rows);
+    let is_placed = (a.number == 0) | (a.place == front.count);
+    checked(
+        t,
+        is_placed & is_right(day, front, a, rows, late, 11),
+        b'o',
+        k,
+    )
+}
+
+// The list has the pair at a place.
+fn has_pair(words: [u32; 16], k: usize, end: u32, late: u32) -> bool {
+    let at = 2 * (k % 8);
+    (words[at] == end) & (words[at + 1] == std::num::wrapping_sub_u32(late, orders::RAISE))
+}
+
+// A pair in the list, its plan, and bounds at its lateness, one below, one above, and half way to that of the next.
+fn pair(book: &[u32], day: Day, front: Front, words: [u32; 16], k: usize, t: Tally) -> Tally {
+    let ends = front.ends;
     let lates = front.lates;
     let late = lates[k % 16];
     let next = lates[(k % 16 + 1) % 16];
-    let mut u = bound(book, day, front, late, t);
+    let number = (k % 16) as u32 + 1;
+    let mut u = checked(t, has_pair(words, k, ends[k % 16], late), b'l', number);
+    u = plan(
+        book,
+        day,
+        front,
+        number,
+        late,
+        tally::add(u, tally::LISTED, 1),
+    );
+    u = bound(book, day, front, late, u);
     u = bound(book, day, front, std::num::wrapping_sub_u32(late, 1), u);
     u = bound(book, day, front, std::num::wrapping_add_u32(late, 1), u);
     bound(
@@ -179,38 +129,39 @@ fn bounds_at(book: &[u32], day: Day, front: Front, k: usize, t: Tally) -> Tally 
     )
 }
 
-fn bounds(book: &[u32], day: Day, front: Front, t: Tally) -> Tally {
-    let mut u = bound(book, day, front, 0, t);
-    u = bound(book, day, front, 4_294_967_295, u);
+fn pairs(book: &[u32], day: Day, front: Front, words: [u32; 16], t: Tally) -> Tally {
     let count = day::at_most(front.count, 16);
+    let mut u = t;
     let mut k: usize = 0;
     while k < count {
-        u = bounds_at(book, day, front, k, u);
+        u = pair(book, day, front, words, k, u);
         k += 1;
     }
     u
 }
 
-// A pair of the front beats another: both numbers no greater, with one smaller.
-fn beats(front: Front, k: usize, end: u32, late: u32) -> bool {
-    let ends = front.ends;
-    let lates = front.lates;
-    let e = ends[k % 16];
-    let l = lates[k % 16];
-    (e <= end) & (l <= late) & ((e < end) | (l < late))
+// The list, the orders of its plans and of none, and the orders for bounds.
+fn plans(book: &[u32], day: Day, front: Front, t: Tally) -> Tally {
+    let mut words = [0u32; 16];
+    let a = asked::list(book, &mut words);
+    let count = (front.count % 16) as u32;
+    let mut u = checked(t, (a.number == 0) & (a.place == front.count), b'l', 0);
+    u = plan(book, day, front, 0, 0, u);
+    u = plan(book, day, front, count + 1, 0, u);
+    u = bound(book, day, front, 0, u);
+    u = bound(book, day, front, 4_294_967_295, u);
+    pairs(book, day, front, words, u)
 }
 
-// The number of the first pair that beats another, or 0.
+// The number of the first pair that beats another, or 0. The first one with both numbers no greater does, unless it is the same.
 fn first_beating(front: Front, end: u32, late: u32) -> usize {
-    let count = day::at_most(front.count, 16);
-    let mut k: usize = 0;
-    while k < count {
-        if beats(front, k, end, late) {
-            return k + 1;
-        }
-        k += 1;
+    let ends = front.ends;
+    let lates = front.lates;
+    let k = first_within(front, end, late) % 16;
+    if (ends[k] == end) & (lates[k] == late) {
+        return 0;
     }
-    0
+    k + 1
 }
 
 // The verdict on an order.
@@ -218,14 +169,15 @@ fn verdict(book: &[u32], day: Day, front: Front, code: u32, t: Tally) -> Tally {
     let rows = orders::order_at(day.count, code);
     let pair = orders::pair_of(day, rows);
     let a = asked::verdict(book, day::first(&rows, day.count));
-    let beating = first_beating(front, pair.end, pair.late);
-    let is_right = (a.number == 0)
-        & (a.end == pair.end)
-        & (a.late == pair.late)
-        & (a.place == beating);
+    let is_judged = (a.number == 0) & (a.place == first_beating(front, pair.end, pair.late));
     let mut u = tally::add(t, tally::VERDICTS, 1);
     u = tally::add_if(u, tally::UNBEATEN, (a.number == 0) & (a.place == 0));
-    checked(u, is_right, b'j', code, day)
+    checked(
+        u,
+        is_judged & (a.end == pair.end) & (a.late == pair.late),
+        b'j',
+        code,
+    )
 }
 
 // All orders of up to 5 rows are judged, and some hundred of more.
@@ -252,24 +204,16 @@ fn verdicts(book: &[u32], day: Day, front: Front, t: Tally) -> Tally {
     u
 }
 
-// A whole day.
-fn day_of(book: &[u32], day: Day, front: Front, t: Tally) -> Tally {
-    let counts = counted(t, day, front);
-    let listed = list(book, day, front, counts);
-    let planned = plans(book, day, front, listed);
-    let bounded = bounds(book, day, front, planned);
-    verdicts(book, day, front, bounded)
+// A whole day, by its book.
+fn day_of(book: &[u32], day: Day, t: Tally) -> Tally {
+    let front = orders::front_of(day);
+    let planned = plans(book, day, front, counted(t, day, front));
+    verdicts(book, day, front, planned)
 }
 
-// The book of a line, by its numbers.
-pub fn book(numbers: [u32; 32], count: usize, t: Tally) -> Tally {
-    let day = day::made(numbers, count);
-    let book = day::book_of(numbers, day.count);
-    let words = book.words;
-    day_of(
-        day::first(&words, book.count),
-        day,
-        orders::front_of(day),
-        t,
-    )
+// A day whose rows are all read.
+pub fn book(day: Day, t: Tally) -> Tally {
+    let ended = day::with_word(day, 7, (day.count % 9) as u32);
+    let words = ended.words;
+    day_of(day::first(&words, ended.size), ended, t)
 }

@@ -4,20 +4,51 @@ ghost use Prim.Native.Nat.{_≤_};
 // Stands for no class.
 const NO_CLASS: u32 = 8;
 
-// The free minute; the rows by release, length and due, and the sum of the lengths. Whether some reading time is an exact half over whole minutes,
-// whether some length drops less than a half, whether a row is due before the row above it, and whether two rows are due at the same minute.
+// How many numbers of the line were read, and the last three; the words of the book. The free minute, pace and class; the rows by release, length
+// and due, the due of the last one, and the sum of the lengths. Whether some reading time is an exact half over whole minutes, whether some length
+// drops less than a half, whether a row is due before the row above it, and whether two rows are due at the same minute.
 pub struct Day {
-    pub numbers: [u32; 32],
+    pub read: usize,
+    pub last: [u32; 3],
+    pub words: [u32; 36],
+    pub size: usize,
     pub free: u32,
+    pub pace: u32,
+    pub class: u32,
     pub count: usize,
     pub release: [u32; 8],
     pub length: [u32; 8],
     pub due: [u32; 8],
+    pub above: u32,
     pub total: u32,
     pub half: bool,
     pub dropped: bool,
     pub unsorted: bool,
     pub tie: bool,
+}
+
+impl Day {
+    pub fn new() -> Day {
+        Day {
+            read: 0,
+            last: [0; 3],
+            words: [0; 36],
+            size: 0,
+            free: 0,
+            pace: 0,
+            class: 0,
+            count: 0,
+            release: [0; 8],
+            length: [0; 8],
+            due: [4_294_967_295; 8],
+            above: 0,
+            total: 0,
+            half: false,
+            dropped: false,
+            unsorted: false,
+            tie: false,
+        }
+    }
 }
 
 // A count, or the most there may be.
@@ -41,6 +72,34 @@ pub fn first(numbers: &[u32], n: usize) -> &[u32] {
     &numbers[..count]
 }
 
+// The book with a word more, of a kind and a value.
+pub fn with_word(day: Day, kind: u32, value: u32) -> Day {
+    let n = day.size;
+    let mut more = day;
+    if n < 36 {
+        more.words[n] = (kind % 8) * 536_870_912 + value % 536_870_912;
+        more.size = n + 1;
+    }
+    more
+}
+
+// The book with the last word of a row: its class, or its due.
+fn with_due(day: Day, due: u32) -> Day {
+    if day.class < NO_CLASS {
+        return with_word(day, 0, day.class);
+    }
+    with_word(day, 6, due)
+}
+
+// The book with a row more. Rows have the numbers 11, 12 and so on.
+fn with_words(day: Day, release: u32, pages: u32, due: u32) -> Day {
+    let number = 11 + (day.count % 8) as u32;
+    with_due(
+        with_word(with_word(with_word(day, 3, number), 4, release), 5, pages),
+        due,
+    )
+}
+
 // Twice what the reading time has over whole minutes, in parts of which a minute has `pace`.
 fn twice_over(pages: u32, pace: u32) -> u32 {
     let minute = 2 * (pace % 1_000);
@@ -59,124 +118,65 @@ fn length_of(pages: u32, pace: u32) -> u32 {
     (pages % 10_000 * 120 + minute / 2) / minute
 }
 
-// A minute is among the first dues.
-fn is_due(dues: [u32; 8], count: usize, minute: u32) -> bool {
-    let most = at_most(count, 8);
-    let mut i: usize = 0;
-    while i < most {
-        if dues[i] == minute {
-            return true;
-        }
-        i += 1;
-    }
-    false
-}
-
-// The day with a row more.
-fn with_row(day: Day, release: u32, pages: u32, due: u32, pace: u32) -> Day {
-    let n = day.count;
-    if n >= 8 {
-        return day;
-    }
-    let dues = day.due;
-    let length = length_of(pages, pace);
-    let over = twice_over(pages, pace);
+// The day with what a row's reading time and due are like.
+fn with_marks(day: Day, pages: u32, due: u32) -> Day {
+    let over = twice_over(pages, day.pace);
+    let d = day.due;
     let mut more = day;
-    more.release[n] = release;
-    more.length[n] = length;
-    more.due[n] = due;
-    more.count = n + 1;
-    more.total = std::num::wrapping_add_u32(day.total, length);
-    more.half = day.half | (over == pace);
-    more.dropped = day.dropped | ((0 < over) & (over < pace));
-    more.unsorted = day.unsorted | (due < number_at(&dues, std::num::wrapping_sub_usize(n, 1)));
-    more.tie = day.tie | is_due(dues, n, due);
+    more.half = day.half | (over == day.pace);
+    more.dropped = day.dropped | ((0 < over) & (over < day.pace));
+    more.unsorted = day.unsorted | (due < day.above);
+    more.above = due;
+    let is_first = (due == d[0]) | (due == d[1]) | (due == d[2]) | (due == d[3]);
+    more.tie = day.tie | is_first | (due == d[4]) | (due == d[5]) | (due == d[6]) | (due == d[7]);
     more
 }
 
-fn bare(numbers: [u32; 32]) -> Day {
-    Day {
-        numbers: numbers,
-        free: numbers[0],
-        count: 0,
-        release: [0; 8],
-        length: [0; 8],
-        due: [0; 8],
-        total: 0,
-        half: false,
-        dropped: false,
-        unsorted: false,
-        tie: false,
-    }
-}
-
-// The day of a line.
-pub fn made(numbers: [u32; 32], count: usize) -> Day {
-    let pace = numbers[1];
-    let rows = at_most(count / 3, 9);
-    let mut day = bare(numbers);
-    let mut i: usize = 1;
-    while i < rows {
-        day = with_row(
-            day,
-            numbers[3 * i],
-            numbers[3 * i + 1],
-            numbers[3 * i + 2],
-            pace,
-        );
-        i += 1;
-    }
-    day
-}
-
-// All rows are of one class.
-pub fn is_of_class(day: Day) -> bool {
-    let numbers = day.numbers;
-    numbers[2] < NO_CLASS
-}
-
-pub struct Book {
-    pub words: [u32; 36],
-    pub count: usize,
-}
-
-// A word of a kind and a value.
-fn with_word(book: Book, kind: u32, value: u32) -> Book {
-    let n = book.count;
-    let mut more = book;
-    if n < 36 {
-        more.words[n] = (kind % 8) * 536_870_912 + value % 536_870_912;
+// The day with a row more.
+fn with_row(day: Day, release: u32, pages: u32, due: u32) -> Day {
+    let n = day.count;
+    let length = length_of(pages, day.pace);
+    let mut more = with_marks(with_words(day, release, pages, due), pages, due);
+    if n < 8 {
+        more.release[n] = release;
+        more.length[n] = length;
+        more.due[n] = due;
+        more.total = std::num::wrapping_add_u32(day.total, length);
         more.count = n + 1;
     }
     more
 }
 
-// The last word of a row: its class, or its due.
-fn with_due(book: Book, class: u32, due: u32) -> Book {
-    if class < NO_CLASS {
-        return with_word(book, 0, class);
-    }
-    with_word(book, 6, due)
+// The first three numbers: the free minute, the pace and the class.
+fn with_head(day: Day, free: u32, pace: u32, class: u32) -> Day {
+    let mut more = with_word(with_word(day, 1, free), 2, pace);
+    more.free = free;
+    more.pace = pace;
+    more.class = class;
+    more
 }
 
-// The book of a line, with so many rows. They have the numbers 11, 12 and so on.
-pub fn book_of(numbers: [u32; 32], rows: usize) -> Book {
-    let count = at_most(rows, 8);
-    let mut book = Book {
-        words: [0; 36],
-        count: 0,
-    };
-    book = with_word(with_word(book, 1, numbers[0]), 2, numbers[1]);
-    let mut i: usize = 0;
-    while i < count {
-        book = with_word(book, 3, 11 + i as u32);
-        book = with_word(
-            with_word(book, 4, numbers[3 * i + 3]),
-            5,
-            numbers[3 * i + 4],
-        );
-        book = with_due(book, numbers[2], numbers[3 * i + 5]);
-        i += 1;
+// Three numbers: the head, or a row.
+fn with_three(day: Day, a: u32, b: u32, c: u32) -> Day {
+    if day.read == 3 {
+        return with_head(day, a, b, c);
     }
-    with_word(book, 7, i as u32)
+    with_row(day, a, b, c)
+}
+
+// The day with a number more of its line.
+pub fn with_number(day: Day, number: u32) -> Day {
+    let last = day.last;
+    let mut more = day;
+    more.last = [last[1], last[2], number];
+    more.read = std::num::wrapping_add_usize(day.read, 1);
+    if more.read % 3 != 0 {
+        return more;
+    }
+    with_three(more, last[1], last[2], number)
+}
+
+// All rows are of one class.
+pub fn is_of_class(day: Day) -> bool {
+    day.class < NO_CLASS
 }

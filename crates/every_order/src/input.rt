@@ -1,6 +1,7 @@
 // From bytes to books and counts.
 use crate::compare;
 use crate::day;
+use crate::day::Day;
 use crate::say;
 use crate::tally::Tally;
 
@@ -13,12 +14,11 @@ const TEXT: u8 = 2;
 
 const COMMENT: u8 = 3;
 
-// The numbers of the line, the one that is read, the counts so far, and how many of them are printed.
+// The number that is read, the day of the line, the counts so far, and how many of them are printed.
 pub struct Input {
-    numbers: [u32; 32],
-    count: usize,
-    value: u32,
     inside: u8,
+    value: u32,
+    day: Day,
     tally: Tally,
     printed: usize,
 }
@@ -26,10 +26,9 @@ pub struct Input {
 impl Input {
     pub fn new() -> Input {
         Input {
-            numbers: [0; 32],
-            count: 0,
-            value: 0,
             inside: NOTHING,
+            value: 0,
+            day: Day::new(),
             tally: Tally { counts: [0; 24] },
             printed: 0,
         }
@@ -77,25 +76,23 @@ fn ended(s: Input) -> Input {
         return s;
     }
     let mut t = inside(s, NOTHING);
-    let n = s.count;
-    if n < 32 {
-        t.numbers[n] = s.value;
-        t.count = n + 1;
-    }
+    let more = day::with_number(s.day, s.value);
+    t.day = more;
     t.value = 0;
     t
 }
 
 // The end of a line: its book, where it has one.
 fn line(s: Input) -> Input {
-    if s.count < 6 {
+    let day = s.day;
+    if day.read == 0 {
         return s;
     }
     let mut t = s;
-    let numbers = s.numbers;
-    let tally = compare::book(numbers, s.count, s.tally);
-    t.tally = tally;
-    t.count = 0;
+    let counted = compare::book(day, s.tally);
+    let none = Day::new();
+    t.tally = counted;
+    t.day = none;
     t
 }
 

@@ -8,10 +8,11 @@ pub const RAISE: u32 = 2_147_483_648;
 // Ends are below this.
 pub const ENDS: usize = 4_096;
 
-// An end and a worst lateness, raised.
+// An end and a worst lateness, raised; and a bit for each row that was taken.
 pub struct Pair {
     pub end: u32,
     pub late: u32,
+    pub taken: u32,
 }
 
 // The pairs that no order beats, by rising end.
@@ -63,6 +64,7 @@ fn after_row(pair: Pair, release: u32, length: u32, due: u32) -> Pair {
     Pair {
         end: end,
         late: later(pair.late, late),
+        taken: pair.taken,
     }
 }
 
@@ -70,7 +72,7 @@ fn later(a: u32, b: u32) -> u32 {
     if a < b { b } else { a }
 }
 
-// The end and the worst lateness of an order, by the desk's own rules.
+// The end and the worst lateness of an order of rows, counted from 1, by the desk's own rules.
 pub fn pair_of(day: Day, order: [u32; 8]) -> Pair {
     let release = day.release;
     let length = day.length;
@@ -79,11 +81,13 @@ pub fn pair_of(day: Day, order: [u32; 8]) -> Pair {
     let mut pair = Pair {
         end: day.free,
         late: 0,
+        taken: 0,
     };
     let mut k: usize = 0;
     while k < count {
         let i = (std::num::wrapping_sub_u32(order[k], 1) % 8) as usize;
         pair = after_row(pair, release[i], length[i], due[i]);
+        pair.taken = pair.taken | (1 << (order[k] % 32));
         k += 1;
     }
     pair

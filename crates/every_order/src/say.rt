@@ -1,34 +1,25 @@
-// What is printed: the counts, and each difference with its book.
+// What is printed: texts and counts, and differences.
 use libc::STDOUT_FILENO;
 
 pub fn byte(b: u8) {
     io::write_all(STDOUT_FILENO, &[b]);
 }
 
-fn number(n: u32) {
-    io::print_decimal(STDOUT_FILENO, n as u64);
-}
-
 // A count, and the end of its line.
 pub fn count(n: u32) {
-    number(n);
+    io::print_decimal(STDOUT_FILENO, n as u64);
     byte(b'\n');
 }
 
-fn after(b: u8, n: u32) {
-    byte(b);
-    number(n);
+fn number(n: u32) {
+    io::print_decimal(STDOUT_FILENO, n as u64);
+    byte(b' ');
 }
 
-// A difference: what was asked, the number that came with the question, and the numbers of the book.
-pub fn difference(what: u8, asked: u32, numbers: &[u32]) {
+// A difference: which book, counted from 1, what was asked, and the number that came with the question.
+pub fn difference(book: u32, what: u8, asked: u32) {
+    number(book);
     byte(what);
-    after(b' ', asked);
-    byte(b':');
-    let mut k: usize = 0;
-    while k < numbers.len() {
-        after(b' ', numbers[k]);
-        k += 1;
-    }
-    byte(b'\n');
+    byte(b' ');
+    count(asked);
 }

@@ -50,6 +50,15 @@ array-read-after-row-3 c = search needs
 after-row-requires : tie.Need-after-row-requires Inv-loop μ-loop
 after-row-requires c κs = search needs
 
+mul-pair : tie.Need-mul-pair Inv-loop μ-loop
+mul-pair c = search needs
+
+array-read-pair : tie.Need-array-read-pair Inv-loop μ-loop
+array-read-pair c = search needs
+
+shl-pair : tie.Need-shl-pair Inv-loop μ-loop
+shl-pair c = search needs
+
 add-k : tie.Need-add-k Inv-loop μ-loop
 add-k c = search needs
 
@@ -81,6 +90,9 @@ pair-of-spec =
     mul-after-row-3
     array-read-after-row-3
     after-row-requires
+    mul-pair
+    array-read-pair
+    shl-pair
     add-k
     loop-less
     loop-again
