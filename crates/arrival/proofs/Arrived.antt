@@ -27,7 +27,8 @@ use Rattle.schedule.proofs.Numbers.{length-count}
 use Rattle.schedule.proofs.Arrival.{arrival-list, arrival-perm, arrival-kept, arrival-over}
 use Rattle.listing.specs.declared.Planned.the-variants.{Kept, Unkept}
 use Rattle.listing.specs.PlanFor.{plannedOf}
-use Rattle.search.proofs.Signs.{late-lowers, lowered-le}
+use Rattle.schedule.proofs.Raised.{lowered-le}
+use Rattle.search.proofs.Signs.{late-lowers}
 use Rattle.listing.specs.Fronts.{HoldsPlans}
 use Rattle.arrival.specs.declared.Plan.{Plan}
 use Rattle.arrival.specs.Given.{writtenOf, OrderGiven, Followed, Arrived}

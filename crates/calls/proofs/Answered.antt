@@ -14,7 +14,6 @@ use mir.ValLaws.{toZ-ofZ}
 use Rattle.theory.specs.Jobs.{Job}
 use Rattle.schedule.specs.declared.Desk.{Desk}
 use Rattle.schedule.specs.declared.Profile.{Profile}
-use Rattle.schedule.specs.Rows.{countFrom}
 use Rattle.schedule.specs.Desk.{Pair, endOf, pairOf}
 use Rattle.schedule.specs.Plans.{beats, firstBeating}
 use Rattle.schedule.specs.Offset.{raised, lowered}

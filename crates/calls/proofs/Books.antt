@@ -1,6 +1,6 @@
 -- The properties of the calls on a book, by any terms.
 -- Assumes nothing.
-use Prim.Native.Nat.{ℕ, _*_, _≤_, _<_}
+use Prim.Native.Nat.{ℕ, _≤_, _<_}
 use native.Mathlib.Omega.{arith}
 use mathlib.Core.Bool.{Bool, true, false, cond, _||_}
 use mathlib.Core.Path.{_≡_, refl, sym, ap, _∙_, subst}
@@ -9,12 +9,11 @@ use mathlib.Core.Logic.{_⊎_, inl, inr}
 use lib.Dec.{eqb, ltb}
 use lib.ListN.{length}
 use lib.IntN.{ℤ, pos, negsuc}
-use lib.Signed.{_≤ℤ_}
 use Rattle.schedule.specs.Limits.{mostRows, latestMinute, longestLength, latestDue, latestBookEnd, leastLateness}
 use Rattle.schedule.specs.declared.Profile.{Profile}
 use Rattle.schedule.specs.declared.Profile.the-variants.{Ordering, FirstCome}
 use Rattle.schedule.specs.Rows.{Day, jobs, rowNumbers}
-use Rattle.schedule.specs.Desk.{OrderOf, pairOf}
+use Rattle.schedule.specs.Desk.{pairOf}
 use Rattle.schedule.specs.Cover.{Fits32}
 use Rattle.schedule.proofs.Numbers.{length-count}
 use Rattle.schedule.proofs.Signed.{leZ→, →leZ}
@@ -36,7 +35,7 @@ use Rattle.readers.proofs.Numbered.{refused-numbered}
 use Rattle.calls.specs.declared.ListAnswer.the-variants as list-answer
 use Rattle.calls.specs.declared.OrderAnswer.the-variants as order-answer
 use Rattle.calls.specs.declared.VerdictAnswer.the-variants as verdict-answer
-use Rattle.calls.specs.Calls.{Planning, planningOf, listOutcome, orderOutcome, planOutcome, verdictOutcome, listCall, boundCall, planCall, verdictCall}
+use Rattle.calls.specs.Calls.{planningOf, listOutcome, listCall, boundCall, planCall, verdictCall}
 use Rattle.calls.specs.CallsPromise.{LentMemory, TableNumber, DayInRange, ListKept, BoundKept, VerdictKept, MemoryKept, CoverKept}
 use Rattle.calls.proofs.CallLaws.{list-refused, bound-refused, plan-refused, verdict-refused, list-of, bound-of, plan-of, verdict-of}
 use Rattle.calls.proofs.Kept.{Sound, list-kept, bound-kept, verdict-kept}

@@ -19,7 +19,7 @@ use Rattle.schedule.proofs.Orders.{perm-count, perm-all}
 use Rattle.schedule.proofs.Numbers.{length-count, count-range}
 use Rattle.schedule.proofs.Ranges.{fits-32}
 use Rattle.schedule.proofs.Profiles.{profiles-promised}
-use Rattle.schedule.proofs.SameJobs.{same-pair, same-rule, same-list, same-order}
+use Rattle.schedule.proofs.SameJobs.{same-pair, same-list, same-order}
 use Rattle.refusals.specs.declared.Tested.{Tested}
 use Rattle.refusals.specs.declared.Tested.the-variants as tested
 use Rattle.postings.specs.Posting.{postingTests}

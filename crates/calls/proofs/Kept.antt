@@ -1,6 +1,6 @@
 -- Property 3 of the calls: it holds of whatever is planned whose list is the list by its definition and whose orders for a bound are best.
 -- Assumes nothing.
-use Prim.Native.Nat.{ℕ, _*_, _≤_, _<_}
+use Prim.Native.Nat.{ℕ, _*_, _≤_}
 use native.Mathlib.Omega.{arith}
 use mathlib.Core.Bool.{not}
 use mathlib.Core.Path.{_≡_, refl, sym, ap, _∙_, subst}
@@ -12,7 +12,7 @@ use lib.ListN.{length, drop}
 use lib.IntN.{ℤ, pos, negsuc}
 use lib.Signed.{_≤ℤ_}
 use Rattle.schedule.specs.Rows.{countFrom}
-use Rattle.schedule.specs.Desk.{Pair, OrderOf, Attains, pairOf, endOf}
+use Rattle.schedule.specs.Desk.{Pair, OrderOf, Attains, pairOf}
 use Rattle.schedule.specs.Plans.{beats, plans, firstBeating}
 use Rattle.schedule.specs.Cover.{Rising, Fits32}
 use Rattle.schedule.specs.Cover.{PlansPromise}

@@ -1,16 +1,16 @@
 -- What a caller knows of what a book gave: the refusal, or that it can be planned, and that the calls on the columns are the calls on the book.
 -- Assumes nothing.
-use Prim.Native.Nat.{ℕ, _*_, _≤_, _<_}
+use Prim.Native.Nat.{ℕ}
 use native.Mathlib.Omega.{arith}
-use mathlib.Core.Path.{_≡_, refl, sym, ap, _∙_, subst}
+use mathlib.Core.Path.{_≡_, sym, _∙_, subst}
 use mathlib.Core.List.{List, List·Memᴰ}
 use lib.ListN.{length}
 use lib.IntN.{ℤ}
 use Rattle.theory.specs.Jobs.{Job}
-use Rattle.schedule.specs.Limits.{mostRows, latestMinute, longestLength, latestDue}
+use Rattle.schedule.specs.Limits.{latestMinute, longestLength, latestDue}
 use Rattle.schedule.specs.Rows.{countFrom, Day, jobs}
 use Rattle.schedule.specs.Profiles.{Obeys}
-use Rattle.schedule.proofs.Numbers.{count-range, from-mem}
+use Rattle.schedule.proofs.Numbers.{count-range}
 use Rattle.schedule.proofs.SameJobs.{same-rule}
 use Rattle.refusals.specs.declared.Tested.the-variants.{Passed}
 use Rattle.book.specs.Rows.{accepted}

@@ -3,7 +3,7 @@
 use Prim.Native.Nat.{ℕ}
 use mathlib.Core.Path.{_≡_, refl}
 use mathlib.Core.List.{List, [], _∷_, map}
-use lib.IntN.{ℤ, pos, negsuc}
+use lib.IntN.{pos, negsuc}
 use Rattle.schedule.specs.declared.Class.the-variants.{None}
 use Rattle.schedule.specs.Rows.{openRows}
 use Rattle.schedule.specs.Desk.{openDesk}

@@ -20,7 +20,7 @@ use Rattle.schedule.proofs.Tests.{neither, is-false}
 use Rattle.schedule.proofs.Orders.{Takes, takes-mem}
 use Rattle.schedule.proofs.Numbers.{length-count}
 use Rattle.schedule.proofs.Search.{Halted, ran, FoundOrder, Found, block-is, blocks-one, blocks-two, blocks-none, order-found}
-use Rattle.schedule.proofs.Matches.{Rank, Matches, row-in, match-left, match-all}
+use Rattle.schedule.proofs.Matches.{Rank, Matches, row-in, match-left}
 use Rattle.schedule.proofs.RankPicks.{Renumbers, rank-ties, job-of, Picked, first-picked, second-picked, same-run, same-block}
 use Rattle.schedule.proofs.Cover.{same-list}
 

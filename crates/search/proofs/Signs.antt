@@ -1,22 +1,23 @@
 -- Raised latenesses and signed ones: the desk's worst lateness is within a raised bound exactly where every lateness is within the
 -- signed one.
 -- Assumes nothing.
-use Prim.Native.Nat.{ℕ, _+_, _-_, _≤_, _<_, max}
+use Prim.Native.Nat.{ℕ, _+_, _-_, _≤_, max}
 use native.Mathlib.Omega.{arith}
-use mathlib.Core.Bool.{Bool, true, false, cond, _&&_}
+use mathlib.Core.Bool.{Bool, true, false, _&&_}
 use mathlib.Core.Path.{_≡_, refl, sym, ap, _∙_}
 use mathlib.Core.List.{List, [], _∷_, _++_}
-use lib.Dec.{T, leb, ltb, leb→le, le→leb, ltb→lt, lt→ltb}
+use lib.Dec.{leb}
 use lib.ListN.{length}
 use lib.IntN.{ℤ, subℕ, predℤ}
-use lib.Signed.{leZ, ltZ}
+use lib.Signed.{leZ}
 use borrow.Author.Tests.{le-leb, lt-leb, leb-true, leb-false}
 use Rattle.theory.specs.Jobs.{Job, finish}
 use Rattle.schedule.specs.declared.Desk.{Desk}
 use Rattle.schedule.specs.Desk.{maxZ, worstOf, atMost, latenesses, endOf, keeps, pairOf}
 use Rattle.schedule.specs.Offset.{raised, lowered, deskAt, deskAfter}
 use Rattle.schedule.proofs.SignedWords.{raised-lowered}
-use Rattle.schedule.proofs.Signed.{leZ→, →leZ, ltZ→, →ltZ, level, sub-level, pred-level}
+use Rattle.schedule.proofs.Raised.{lowered-le, late-lowered, max-lowered}
+use Rattle.schedule.proofs.Signed.{level, sub-level, pred-level}
 use Rattle.schedule.specs.Columns.{Limits}
 use Rattle.search.specs.Taking.{deskThrough}
 
@@ -25,48 +26,10 @@ pub lowered-pred : (n : ℕ) → 1 ≤ n → lowered (n - 1) ≡ predℤ (lowere
 lowered-pred n h = level (lowered (n - 1)) (predℤ (lowered n))
     (omega (arith, sub-level (n - 1) 2147483648, sub-level n 2147483648, pred-level (lowered n)))
 
--- Two tests that hold together are one.
-one-test : (s t : Bool) → (T s → T t) → (T t → T s) → s ≡ t
-one-test true true f g = refl
-one-test true false f g = absurd (f tt)
-one-test false true f g = absurd (g tt)
-one-test false false f g = refl
-
--- Raised numbers compare as the lowered ones do.
-pub lowered-le : (a b : ℕ) → leZ (lowered a) (lowered b) ≡ leb a b
-lowered-le a b =
-    one-test (leZ (lowered a) (lowered b)) (leb a b)
-    (λ t. le→leb a b (omega (arith, leZ→ (lowered a) (lowered b) t, sub-level a 2147483648, sub-level b 2147483648)))
-    (λ t. →leZ (lowered a) (lowered b) (omega (arith, leb→le a b t, sub-level a 2147483648, sub-level b 2147483648)))
-
-pub lowered-lt : (a b : ℕ) → ltZ (lowered a) (lowered b) ≡ ltb a b
-lowered-lt a b =
-    one-test (ltZ (lowered a) (lowered b)) (ltb a b)
-    (λ t. lt→ltb a b (omega (arith, ltZ→ (lowered a) (lowered b) t, sub-level a 2147483648, sub-level b 2147483648)))
-    (λ t. →ltZ (lowered a) (lowered b) (omega (arith, ltb→lt a b t, sub-level a 2147483648, sub-level b 2147483648)))
-
--- A raised lateness, lowered; and the test of one.
-late-lowered : (end due : ℕ) → due ≤ 2147483648 → lowered (end + 2147483648 - due) ≡ subℕ end due
-late-lowered end due h = level (lowered (end + 2147483648 - due)) (subℕ end due)
-    (omega (arith, sub-level (end + 2147483648 - due) 2147483648, sub-level end due))
-
+-- The test of a raised lateness.
 late-within : (end due bound : ℕ) → due ≤ 2147483648 → leb (end + 2147483648 - due) bound ≡ leZ (subℕ end due) (lowered bound)
 late-within end due bound h = sym (lowered-le (end + 2147483648 - due) bound) ∙
     ap (λ (z : ℤ). leZ z (lowered bound)) (late-lowered end due h)
-
-max-lowered : (a b : ℕ) → lowered (max a b) ≡ maxZ (lowered a) (lowered b)
-unfolding maxZ
-max-lowered a b = go (leb a b) refl
-  where
-    go : (t : Bool) → leb a b ≡ t → lowered (max a b) ≡ cond (leZ (lowered a) (lowered b)) (lowered b) (lowered a)
-    go true e =
-        let h : a ≤ b = leb-true a b e in
-        let m : max a b ≡ b = omega arith in
-        ap lowered m ∙ ap (λ (c : Bool). cond c (lowered b) (lowered a)) (sym (lowered-le a b ∙ e))
-    go false e =
-        let h : b < a = leb-false a b e in
-        let m : max a b ≡ a = omega arith in
-        ap lowered m ∙ ap (λ (c : Bool). cond c (lowered b) (lowered a)) (sym (lowered-le a b ∙ e))
 
 max-within : (a b c : ℕ) → leb (max a b) c ≡ (leb a c && leb b c)
 max-within a b c = go (leb a c) (leb b c) refl refl

@@ -21,7 +21,6 @@ use Rattle.schedule.specs.Offset.{lowered}
 use Rattle.schedule.proofs.Signed.{sub-cases}
 use Rattle.book.specs.declared.Table.{Table}
 use Rattle.schedule.specs.declared.Profile.the-variants.{Ordering}
-use Rattle.schedule.specs.Rows.{Day}
 use Rattle.book.specs.Book.{tableRows}
 use Rattle.results.specs.Results.{written, signed, plansIn}
 use Rattle.calls.specs.declared.OrderAnswer.{OrderAnswer}

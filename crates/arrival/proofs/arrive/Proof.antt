@@ -6,7 +6,6 @@ use Rattle.arrival.proofs.Arrived.{arrived-small, arrived-plan}
 use Prim.Native.Nat.{_-_}
 use mathlib.Core.Path.{sym}
 use native.Mathlib.Omega.{arith}
-use lib.ListN.{length}
 use borrow.Author.Needs.{needs}
 use Rattle.arrival.proofs.arrive.Statement.{statement}
 use Rattle.arrival.proofs.arrive.Tie as tie

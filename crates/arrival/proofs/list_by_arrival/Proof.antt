@@ -5,7 +5,6 @@ use Rattle.schedule.specs.Limits.{mostRows}
 use Rattle.schedule.specs.Columns.{columns}
 use Rattle.arrival.proofs.Arrived.{one-plan}
 use Prim.Native.Nat.{ℕ, _-_}
-use lib.ListN.{length}
 use borrow.Author.Needs.{needs}
 use Rattle.arrival.proofs.list_by_arrival.Statement.{statement}
 use Rattle.arrival.proofs.list_by_arrival.Tie as tie

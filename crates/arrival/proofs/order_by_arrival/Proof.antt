@@ -3,7 +3,6 @@
 use Rattle.schedule.specs.Columns.{columns}
 use Rattle.arrival.proofs.Arrived.{arrival-unkept, arrival-given}
 use Prim.Native.Nat.{_-_}
-use lib.ListN.{length}
 use borrow.Author.Needs.{needs}
 use Rattle.arrival.proofs.order_by_arrival.Statement.{statement}
 use Rattle.arrival.proofs.order_by_arrival.Tie as tie

@@ -10,9 +10,6 @@ use Rattle.calls.specs.Calls.{boundCall}
 use Rattle.first_come.specs.Promise.{firstCome}
 use Rattle.first_come.proofs.order_for_bound.Statement.{statement}
 use Rattle.first_come.proofs.order_for_bound.Tie as tie
-use Rattle.first_come.proofs.order_for_bound.Reads as reads
-use Rattle.first_come.proofs.order_for_bound.Lts as lts
-use Rattle.calls.proofs.order_for_bound.Reads as order-for-bound-reads
 
 order-for-bound-requires : tie.Need-order-for-bound-requires
 order-for-bound-requires c κs = search needs

@@ -6,7 +6,6 @@ use Rattle.schedule.specs.Profiles.{orderBy}
 use Rattle.schedule.specs.Columns.{columns}
 use Rattle.plans.proofs.Profiles.{given-by}
 use Prim.Native.Nat.{_-_}
-use lib.ListN.{length}
 use borrow.Author.Needs.{needs}
 use Rattle.plans.proofs.order_for.Statement.{statement}
 use Rattle.plans.proofs.order_for.Tie as tie
