@@ -275,9 +275,10 @@ fn source() {
     assert_eq!(results.len(), 1, "one answer serves all calls");
     let answer = results.first().unwrap();
     let head = format!("#[repr(C)] pub struct {answer} {{");
+    let answers = flat(&file("crates/answers/src/lib.rt"));
     let declared = flat(&file("host/src/linked.rs"));
     assert_eq!(
-        struct_fields(&source, &head),
+        struct_fields(&answers, &head),
         struct_fields(&declared, "pub struct Answer {")
     );
 }

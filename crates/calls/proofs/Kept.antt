@@ -34,8 +34,8 @@ use Rattle.calls.specs.CallsPromise.{ReaderOrder, endBy, lateBy, NoneBea
 use Rattle.calls.proofs.CallLaws.{list-is, plan-is, plan-unlisted, verdict-no, verdict-is, order-some, order-none}
 use Rattle.calls.proofs.Plans.{signed-back, plans-back, first-none, none-first, nth-mem}
 
--- What makes the calls on what is planned keep their promise: latenesses are signed 32-bit numbers, the list is the list by its definition, and
--- the orders for a bound are best.
+-- What makes the calls on what is planned keep their promise: latenesses are signed 32-bit numbers, the list is the list by its
+-- definition, and the orders for a bound are best.
 pub record Sound (g : Planning) : Type 0 where
   pub fits : Fits32 (g .job) (g .minute) (g .left)
   pub front : g .plans ≡ plans (g .job) (g .minute) (g .left)

@@ -1,5 +1,5 @@
--- What a caller knows of what a book gave: the refusal, or that it can be planned, and that the calls on the columns are the calls on the book.
--- Assumes nothing.
+-- What a caller knows of what a book gave: the refusal, or that it can be planned, and that the calls on the columns are the calls on the
+-- book. Assumes nothing.
 use Prim.Native.Nat.{ℕ}
 use native.Mathlib.Omega.{arith}
 use mathlib.Core.Path.{_≡_, sym, _∙_, subst}

@@ -1,6 +1,6 @@
--- What is promised of the calls by any profile. The three properties of a profile are made of this: planner/specs/Promise, first_come/specs/Promise.
--- The proofs are `memory-kept`, `day-in-range` and `cover-kept`, in proofs/Books.antt.
--- Rests on: Calls, Answers, the schedule.
+-- What is promised of the calls by any profile. The three properties of a profile are made of this: planner/specs/Promise,
+-- first_come/specs/Promise. The proofs are `memory-kept`, `day-in-range` and `cover-kept`, in proofs/Books.antt. Rests on: Calls,
+-- Answers, the schedule.
 use Prim.Native.Nat.{ℕ, _*_, _≤_}
 use mathlib.Core.Bool.{not}
 use mathlib.Core.Path.{_≡_}
@@ -54,8 +54,8 @@ pub record LentMemoryOfCalls (terms : Terms) (book : List ℕ) : Type 0 where
   pub verdict : (posting : List ℕ) (n p : ℕ) → verdictCall terms book posting ≡ verdict-answer.Refused n p → TableNumber (terms .profile) n
   pub row : (k n p : ℕ) → placeBy terms book k ≡ row-place.Refused n p → TableNumber (terms .profile) n × (wordsBy terms book k ≡ [])
 
--- 2. The definitions, of the day that an accepted book gives: 1 to 256 rows; the greatest and least ends and latenesses of any order; the dues of
--- its classes.
+-- 2. The definitions, of the day that an accepted book gives: 1 to 256 rows; the greatest and least ends and latenesses of any order; the
+-- dues of its classes.
 pub record DayInRange (day : Day) : Type 0 where
   pub few-rows : (1 ≤ length (day .rows)) × (length (day .rows) ≤ mostRows)
   pub ranges : (order : List ℕ) → OrderOf (rowNumbers day) order →
@@ -100,8 +100,8 @@ module _ (planning : Planning) where
       -- A pair is listed exactly if some order attains it and no order beats it.
       pub belongs : (b : List ℕ) → 2 * length (planning .left) ≤ length b → (p : Pair) → List·Memᴰ p (listedPlans b) ↔
           (((order : List ℕ) × Attains (planning .job) (planning .minute) (planning .left) order p) × NoneBeats p)
-      -- Each plan's order, asked for by the plan's number into any buffer of one word for each row, is the one defined for it, has every row
-      -- once and attains the plan's pair.
+      -- Each plan's order, asked for by the plan's number into any buffer of one word for each row, is the one defined for it, has every
+      -- row once and attains the plan's pair.
       pub plan-order : (b c : List ℕ) → 2 * length (planning .left) ≤ length b → length (planning .left) ≤ length c →
           (k : ℕ) (p : Pair) → nth (listedPlans b) k ≡ some p →
           (order : List ℕ) × (planning .orders (p .late) ≡ some order) ×

@@ -1,5 +1,5 @@
--- Days worked through: how a table of questions and expected answers is written, and what it is for such a table to hold of the definitions.
--- The tables are in planner/specs/Days and first_come/specs/Days. Rests on: Calls, Lines, the readers.
+-- Days worked through: how a table of questions and expected answers is written, and what it is for such a table to hold of the
+-- definitions. The tables are in planner/specs/Days and first_come/specs/Days. Rests on: Calls, Lines, the readers.
 use Prim.Native.Nat.{ℕ, _+_, _*_}
 use mathlib.Core.Path.{_≡_, sym, ap, _∙_}
 use mathlib.Core.List.{List, [], _∷_, _++_, map, List·Memᴰ, List·Memᴰ·head, List·Memᴰ·tail, head-eq-of-cons-eq, tail-eq-of-cons-eq}
@@ -81,7 +81,8 @@ abbrev pub _gets_ : Asked → Reply → Worked
 a gets b = record { asked = a; told = b }
 
 infix 10 _gets_
--- How answers are written in the table: a book of one row with its length, due and class, or of length 5; plans with the buffer; an order's end and lateness with the buffer; a refusal with the buffer; a line.
+-- How answers are written in the table: a book of one row with its length, due and class, or of length 5; plans with the buffer; an
+-- order's end and lateness with the buffer; a refusal with the buffer; a line.
 abbrev pub lasts : (minutes due class : ℕ) → Reply
 lasts n d c = reads (accepted (record { free = 0; rows = record { number = 901; release = 10; length = n; due = d; class = Of c } ∷ [] }))
 
@@ -109,5 +110,6 @@ agree f g e (List·Memᴰ·tail m) = agree f g (tail-eq-of-cons-eq e) m
 abbrev pub Hold : Terms → List Worked → Type 0
 Hold terms table = (d : Worked) → List·Memᴰ d table → answerTo terms (d .asked) ≡ d .told
 
-pub hold : (terms : Terms) (table : List Worked) → map (λ (d : Worked). answerTo terms (d .asked)) table ≡ map (λ (d : Worked). d .told) table → Hold terms table
+pub hold : (terms : Terms) (table : List Worked) →
+    map (λ (d : Worked). answerTo terms (d .asked)) table ≡ map (λ (d : Worked). d .told) table → Hold terms table
 hold terms table e d = agree (λ (d : Worked). answerTo terms (d .asked)) (λ (d : Worked). d .told) e

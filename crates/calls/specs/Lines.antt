@@ -31,7 +31,9 @@ numbersOf rows (some order) = map (λ i. row rows i .number) order
 
 module _ (terms : Terms) where
   unfoldable pub lineOf : Day → Pair → Line
-  lineOf day p = record { end = p .end; late = p .late; numbers = numbersOf (day .rows) (planningOf (terms .profile) day .orders (p .late)) }
+  lineOf day p =
+      let order = planningOf (terms .profile) day .orders (p .late) in
+      record { end = p .end; late = p .late; numbers = numbersOf (day .rows) order }
 
   unfoldable pub printed : List ℕ → Printed
   printed book = elim (readBy terms book) [

@@ -1,5 +1,5 @@
-// The calls offered to a bureau, by what they are told: one body each for both profiles. Each is lent a book, has no `requires`, and its contract gives its
-// whole outcome: the answer, and every word of the result buffer at exit.
+// The calls offered to a bureau, by what they are told: one body each for both profiles. Each is lent a book, has no `requires`, and its
+// contract gives its whole outcome: the answer, and every word of the result buffer at exit.
 ghost use mathlib.Core.Path.{_≡_};
 ghost use Prim.Native.Nat.{_≤_};
 ghost use lib.ListN.{length, take};
@@ -35,7 +35,8 @@ pub enum VerdictAnswer {
     Refused(u32, usize),
 }
 
-// The order for a raised bound of the rows in columns, with its own pair; refused where the buffer is too short or no order keeps the bound.
+// The order for a raised bound of the rows in columns, with its own pair; refused where the buffer is too short or no order keeps the
+// bound.
 fn order_into<'a>(
     profile: Profile,
     release: &'a [u32; Desk::PLACES],
@@ -48,7 +49,8 @@ fn order_into<'a>(
 ) -> OrderAnswer
     requires { ⌜ Plannable profile (columns (now release) (now minutes) (now due)) free n ⌝ }
     ensures { λ r. ⌜ gives r (now (result .exit)) ≡
-        orderOutcome (planningIn profile (columns (now (release .entry)) (now (minutes .entry)) (now (due .entry))) free n) (lowered bound) (now (result .entry)) ⌝ }
+        orderOutcome (planningIn profile (columns (now (release .entry)) (now (minutes .entry)) (now (due .entry))) free n)
+        (lowered bound) (now (result .entry)) ⌝ }
 {
     if result.len() < n {
         return OrderAnswer::Refused(Tested::NARROW, 0);
@@ -77,7 +79,8 @@ fn judge<'a>(
 ) -> VerdictAnswer
     requires { ⌜ (count ≤ mostRows) × (length (now ends) ≡ mostRows) × (length (now lates) ≡ mostRows) ⌝ }
     ensures { λ r. ⌜ r ≡ judgedOf (pairAt (desk .minute) (desk .worst))
-        (firstBeating 1 (pairsOf (take count (now (ends .entry))) (take count (now (lates .entry)))) (pairAt (desk .minute) (desk .worst))) ⌝ }
+        (firstBeating 1 (pairsOf (take count (now (ends .entry))) (take count (now (lates .entry))))
+        (pairAt (desk .minute) (desk .worst))) ⌝ }
 {
     let end = desk.minute;
     let late = schedule::lower(desk.worst);

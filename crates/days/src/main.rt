@@ -1,6 +1,6 @@
-// Runs days through the offered calls and prints what comes out, for the stored output to be held against: worked days, every refusal at every
-// place where it can come, buffers of every length, ties, early work, rows as they arrive, reading times between whole minutes, and books with many
-// plans. The days and what is asked of them stand on standard input:
+// Runs days through the offered calls and prints what comes out, for the stored output to be held against: worked days, every refusal at
+// every place where it can come, buffers of every length, ties, early work, rows as they arrive, reading times between whole minutes, and
+// books with many plans. The days and what is asked of them stand on standard input:
 //
 //     "TEXT"                a text, printed
 //     .                     the end of a printed line

@@ -8,8 +8,9 @@ pub const WHOLE: usize = 600;
 
 const KIND: u32 = 536_870_912;
 
-// The book, its length and the posting; a place, the words of the result buffer, and by how much more each release and due rises than the one above.
-// The command that is read, whether the last byte was of a text, a comment, a word or a number, and the number's kind and value.
+// The book, its length and the posting; a place, the words of the result buffer, and by how much more each release and due rises than the
+// one above. The command that is read, whether the last byte was of a text, a comment, a word or a number, and the number's kind and
+// value.
 pub struct State {
     pub book: [u32; ROOM],
     pub length: usize,
@@ -101,7 +102,8 @@ pub fn posted(s: State, entry: u32) -> State {
     t
 }
 
-// The word that a row takes over from the two rows above it: as much above the one as that is above the other, a release or a due by so much more.
+// The word that a row takes over from the two rows above it: as much above the one as that is above the other, a release or a due by so
+// much more.
 fn next_word(words: &[u32], n: usize, rise: u32) -> u32 {
     let last = word_at(words, std::num::wrapping_sub_usize(n, 4));
     let before = word_at(words, std::num::wrapping_sub_usize(n, 8));

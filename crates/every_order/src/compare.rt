@@ -9,7 +9,8 @@ use crate::say;
 use crate::tally;
 use crate::tally::Tally;
 
-// An answer that is right, or a difference: what was asked is l for the list, o for the order of a plan, f for that for a bound, j for a verdict.
+// An answer that is right, or a difference: what was asked is l for the list, o for the order of a plan, f for that for a bound, j for a
+// verdict.
 fn checked(t: Tally, is_right: bool, what: u8, asked: u32) -> Tally {
     if is_right {
         return t;
@@ -82,7 +83,8 @@ fn bound(book: &[u32], day: Day, front: Front, y: u32, t: Tally) -> Tally {
     checked(u, is_right(day, front, a, rows, y, 12), b'f', y)
 }
 
-// The order of a plan, which is the order for its own worst lateness. A number that no plan has is refused 11, with the count of plans as place.
+// The order of a plan, which is the order for its own worst lateness. A number that no plan has is refused 11, with the count of plans as
+// place.
 fn plan(book: &[u32], day: Day, front: Front, k: u32, late: u32, t: Tally) -> Tally {
     let mut rows = [0u32; 8];
     let a = asked::plan(book, k, &mut rows);

@@ -4,9 +4,10 @@ ghost use Prim.Native.Nat.{_≤_};
 // Stands for no class.
 const NO_CLASS: u32 = 8;
 
-// How many numbers of the line were read, and the last three; the words of the book. The free minute, pace and class; the rows by release, length
-// and due, the due of the last one, and the sum of the lengths. Whether some reading time is an exact half over whole minutes, whether some length
-// drops less than a half, whether a row is due before the row above it, and whether two rows are due at the same minute.
+// How many numbers of the line were read, and the last three; the words of the book. The free minute, pace and class; the rows by
+// release, length and due, the due of the last one, and the sum of the lengths. Whether some reading time is an exact half over whole
+// minutes, whether some length drops less than a half, whether a row is due before the row above it, and whether two rows are due at the
+// same minute.
 pub struct Day {
     pub read: usize,
     pub last: [u32; 3],

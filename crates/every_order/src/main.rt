@@ -1,5 +1,5 @@
-// Holds the planner against trying every order: of each small book on standard input the pairs of all orders are worked out here, with no part of
-// the planner, and every offered call is compared with them. A difference prints which book it is and what was asked.
+// Holds the planner against trying every order: of each small book on standard input the pairs of all orders are worked out here, with no
+// part of the planner, and every offered call is compared with them. A difference prints which book it is and what was asked.
 //
 //     FREE PACE CLASS  RELEASE PAGES DUE ..     a line is a book of 1 to 8 rows, all of one class, or of none where that is 8
 //     "TEXT"                                    prints the text and a count, one after another as `tally` has them

@@ -1,8 +1,9 @@
--- The three properties of the calls by first come, first due, for every book, bound, plan number, posting and buffer. Proved as `lent-memory`,
--- `definitions-hold` and `calls-keep-promise`, in proofs/Promise.antt.
+-- The three properties of the calls by first come, first due, for every book, bound, plan number, posting and buffer. Proved as
+-- `lent-memory`, `definitions-hold` and `calls-keep-promise`, in proofs/Promise.antt.
 --
--- The contract of each offered function says that its answer and its buffer at exit are those of its call by these terms, whatever it is lent and told.
--- What properties 1 and 3 say of a profile is in the calls' Promise. Rests on: the calls' Promise, the schedule's Arrival, the readers.
+-- The contract of each offered function says that its answer and its buffer at exit are those of its call by these terms, whatever it is
+-- lent and told. What properties 1 and 3 say of a profile is in the calls' Promise. Rests on: the calls' Promise, the schedule's Arrival,
+-- the readers.
 use Prim.Native.Nat.{ℕ, _≤_}
 use mathlib.Core.Path.{_≡_}
 use mathlib.Core.List.{List, [], _∷_}
@@ -43,16 +44,19 @@ pub record OnePlan (day : Day) : Type 0 where
   pub whole : OrderOf (rowNumbers day) (arrivalOrder day)
   -- it ends no later and is no later at worst than every order of the rows;
   pub least : (order : List ℕ) → OrderOf (rowNumbers day) order →
-      (arrivalPlan day .end ≤ pairOf (jobs day) (day .free) order .end) × (arrivalPlan day .late ≤ℤ pairOf (jobs day) (day .free) order .late)
+      (arrivalPlan day .end ≤ pairOf (jobs day) (day .free) order .end) ×
+      (arrivalPlan day .late ≤ℤ pairOf (jobs day) (day .free) order .late)
   -- so the list by its definition, the pairs that some order attains and no order beats, is its pair alone.
   pub one-plan : plans (jobs day) (day .free) (rowNumbers day) ≡ arrivalPlan day ∷ []
 
 pub record DefinitionsHold : Type 0 where
   pub accepts : (book : List ℕ) (day : Day) → readBy firstCome book ≡ accepted day → OnePlan day
-  -- A book that passes tests 1 to 7 is refused 13 exactly if two rows cross, at the number word of the earliest row that crosses a row above it.
+  -- A book that passes tests 1 to 7 is refused 13 exactly if two rows cross, at the number word of the earliest row that crosses a row
+  -- above it.
   pub crossing : (book : List ℕ) (day : Day) → readWords book ≡ accepted day → Settled firstCome book day
   -- Where the ordering rule accepts the book too, its list is the same.
-  pub same-list : (book : List ℕ) (day : Day) → readBy firstCome book ≡ accepted day → readBy (record { profile = Ordering }) book ≡ accepted day →
+  pub same-list : (book : List ℕ) (day : Day) → readBy firstCome book ≡ accepted day →
+      readBy (record { profile = Ordering }) book ≡ accepted day →
       (b : List ℕ) → listCall firstCome book b ≡ listCall (record { profile = Ordering }) book b
 
 abbrev pub Property2 : Type 0

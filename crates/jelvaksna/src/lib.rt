@@ -1,5 +1,6 @@
-// The C boundary: each call offered to a bureau on pointers and lengths, with one C struct for every answer. Its header is include/jelvaksna.h.
-// A slice crosses as a pointer and a length in words. No call has a `requires`, and its contract gives its whole outcome.
+// The C boundary: each call offered to a bureau on pointers and lengths, with one C struct for every answer. Its header is
+// include/jelvaksna.h. A slice crosses as a pointer and a length in words. No call has a `requires`, and its contract gives its whole
+// outcome.
 ghost use mathlib.Core.Path.{_≡_};
 ghost use Rattle.calls.specs.Answers.{saidList, saidOrder, saidVerdict, saidPlace};
 ghost use Rattle.calls.specs.Calls.{listCall, boundCall, planCall, verdictCall};

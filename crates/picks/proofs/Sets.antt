@@ -125,7 +125,8 @@ module _ {p : ℕ → Bool} (q : ℕ) (before : Clear p q) where
           go j g true d = before j (ltb-true j (64 * q) d)
           go j g false d = found .clear j (ltb-false j (64 * q) d) (omega arith)
 
--- The search for the least number after i, where i is the least: that for the least of the set without i, begun at i's word. It stands at the word q, and w is that word.
+-- The search for the least number after i, where i is the least: that for the least of the set without i, begun at i's word. It stands at
+-- the word q, and w is that word.
 abbrev pub Passed : List ℕ → (i q w : ℕ) → Type 0
 Passed ws i q w =
     (p : ℕ → Bool) → Words p ws → p i ≡ true → ((j : ℕ) → j < i → p j ≡ false) → (w ≡ word (mark i false p) (64 * q) 64) × Clear (mark i false p) q

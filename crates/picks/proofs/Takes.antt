@@ -1,5 +1,5 @@
--- A row is taken: the numbers are within what the machine's words hold, the row is in the set once the desk has moved on, and what the desk is then.
--- Assumes nothing.
+-- A row is taken: the numbers are within what the machine's words hold, the row is in the set once the desk has moved on, and what the
+-- desk is then. Assumes nothing.
 use Prim.Native.Nat.{ℕ, _+_, _≤_, _<_}
 use native.Mathlib.Omega.{arith}
 use mathlib.Core.Bool.{Bool, true, false}

@@ -1,5 +1,5 @@
--- A desk in planning, in small: the released rows left over as a set of bits, and the place in the rows by release from which on rows are ahead.
--- Rows are numbered by rank here. Rests on: Bits, and the schedule's desk, picks and ranks.
+-- A desk in planning, in small: the released rows left over as a set of bits, and the place in the rows by release from which on rows are
+-- ahead. Rows are numbered by rank here. Rests on: Bits, and the schedule's desk, picks and ranks.
 use Prim.Native.Nat.{ℕ, _+_, _≤_, _<_}
 use mathlib.Core.Bool.{Bool, true, false}
 use mathlib.Core.Path.{_≡_}

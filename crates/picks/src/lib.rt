@@ -1,5 +1,6 @@
-// The desk in planning: its picks, and what taking a row makes of it. Rows are numbered by rank, from 1; 0 stands for no row.
-// The released rows left over are bits of five words, and a cursor stands in the rows by release. `take` changes the words in place: giving rows back is keeping a copy of the desk as it was.
+// The desk in planning: its picks, and what taking a row makes of it. Rows are numbered by rank, from 1; 0 stands for no row. The
+// released rows left over are bits of five words, and a cursor stands in the rows by release. `take` changes the words in place: giving
+// rows back is keeping a copy of the desk as it was.
 ghost use mathlib.Core.Path.{_≡_};
 ghost use mathlib.Core.Bool.{Bool, true, false};
 ghost use mathlib.Core.List.{List, List·Memᴰ};

@@ -1,5 +1,5 @@
--- The days worked through, M1 to M13, days with classes, with rows as they arrive and with reading times between whole minutes: the table, and the
--- theorem that every entry holds of the definitions. Rests on: the calls' Days.
+-- The days worked through, M1 to M13, days with classes, with rows as they arrive and with reading times between whole minutes: the
+-- table, and the theorem that every entry holds of the definitions. Rests on: the calls' Days.
 use Prim.Native.Nat.{ℕ}
 use mathlib.Core.Path.{_≡_, refl}
 use mathlib.Core.List.{List, [], _∷_, map}
@@ -20,7 +20,8 @@ use Rattle.calls.specs.declared.VerdictAnswer.the-variants as verdict-answer
 use Rattle.calls.specs.Calls.{gives, openCalls}
 use Rattle.calls.specs.Lines.{listing, openLines}
 use Rattle.calls.specs.Days.{entry, sold, wordOf, book, reading, printing, list, bound, plan, posting, rowWordsOf, rowPlaceOf, lengthOf}
-use Rattle.calls.specs.Days.{reads, prints, lists, judges, words, finds, takes, Worked, _gets_, lasts, due, plans, order, turnedDown, line, answerTo, Hold, hold}
+use Rattle.calls.specs.Days.{reads, prints, lists, judges, words, finds, takes, lasts, due, plans, order, turnedDown, line}
+use Rattle.calls.specs.Days.{Worked, _gets_, answerTo, Hold, hold}
 use Rattle.planner.specs.Promise.{orderingRule}
 
 -- M1's book, with the due of row 2 open for M7 and M8, also with its rows swapped; M2 to M6; M9; M10; M13, also with its rows mixed.
@@ -95,7 +96,8 @@ days =
     (reading (twoRows 13) gets reads (accepted (record {
       free = 0;
       rows =
-          record { number = 901; release = 1; length = 1; due = 5; class = None } ∷ record { number = 902; release = 0; length = 10; due = 13; class = None } ∷ [];
+          record { number = 901; release = 1; length = 1; due = 5; class = None } ∷
+          record { number = 902; release = 0; length = 10; due = 13; class = None } ∷ [];
     }))) ∷
     (reading (twoRows 14) gets reads (refused 8 6)) ∷
     -- M9: one row, free 7.
@@ -141,13 +143,14 @@ days =
     (posting mixedRows (2 ∷ 4 ∷ 3 ∷ 1 ∷ []) gets judges (verdict-answer.Unbeaten 122 (pos 0))) ∷
     (reading (swappedRows 14) gets reads (refused 8 6)) ∷
     (reading apartRows gets reads (refused 8 10)) ∷
-    -- Equal dues with different spare: the smaller release plus length goes first, be it the shorter or the longer row; then the smaller row.
+    -- Equal dues with different spare: the smaller release plus length goes first, be it the shorter or the longer row; then the smaller
+    -- row.
     (plan (tiedRows 0 8 4 3) 1 (0 ∷ 0 ∷ []) gets order 21 (negsuc 8) (2 ∷ 1 ∷ [])) ∷
     (plan (tiedRows 4 3 0 6) 1 (0 ∷ 0 ∷ []) gets order 19 (negsuc 10) (2 ∷ 1 ∷ [])) ∷
     (plan (tiedRows 2 4 0 6) 1 (0 ∷ 0 ∷ []) gets order 20 (negsuc 9) (1 ∷ 2 ∷ [])) ∷
     (plan (tiedRows 0 6 2 4) 1 (0 ∷ 0 ∷ []) gets order 20 (negsuc 9) (1 ∷ 2 ∷ [])) ∷
-    -- The nearest minute: exact halves, the least of them (1/2), 1 1/2 and the greatest (14,992 1/2); what lies nearest to a half, above it (60/119)
-    -- and below it (59 59/119); the greatest length.
+    -- The nearest minute: exact halves, the least of them (1/2), 1 1/2 and the greatest (14,992 1/2); what lies nearest to a half, above
+    -- it (60/119) and below it (59 59/119); the greatest length.
     (lengthOf 1 120 gets takes 1) ∷
     (lengthOf 3 120 gets takes 2) ∷
     (lengthOf 1999 8 gets takes 14993) ∷

@@ -1,5 +1,5 @@
-// The calls offered to a bureau, by the ordering rule. Each is lent a book, has no `requires`, and its contract gives its whole outcome: the answer, and every
-// word of the result buffer at exit.
+// The calls offered to a bureau, by the ordering rule. Each is lent a book, has no `requires`, and its contract gives its whole outcome:
+// the answer, and every word of the result buffer at exit.
 ghost use mathlib.Core.Path.{_≡_};
 ghost use Rattle.row_calls.specs.Places.{placeBy, wordsBy};
 ghost use Rattle.calls.specs.Calls.{gives, listCall, boundCall, planCall, verdictCall};

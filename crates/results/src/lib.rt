@@ -27,8 +27,10 @@ pub fn write_plans<'a>(
     count: usize,
     result: &mut [u32],
 )
-    requires { ⌜ (count ≤ mostRows) × (length (now ends) ≡ mostRows) × (length (now lates) ≡ mostRows) × (2 * count ≤ length (now result)) ⌝ }
-    ensures { λ _. ⌜ now (result .exit) ≡ written (planWords (pairsOf (take count (now (ends .entry))) (take count (now (lates .entry))))) (now (result .entry)) ⌝ }
+    requires { ⌜ (count ≤ mostRows) × (length (now ends) ≡ mostRows) × (length (now lates) ≡ mostRows) ×
+        (2 * count ≤ length (now result)) ⌝ }
+    ensures { λ _. ⌜ now (result .exit) ≡
+        written (planWords (pairsOf (take count (now (ends .entry))) (take count (now (lates .entry))))) (now (result .entry)) ⌝ }
 {
     let mut k: usize = 0;
     while k < count {
@@ -65,7 +67,8 @@ pub fn first_beating<'a>(
     late: u32,
 ) -> usize
     requires { ⌜ (count ≤ mostRows) × (length (now ends) ≡ mostRows) × (length (now lates) ≡ mostRows) ⌝ }
-    ensures { λ r. ⌜ r ≡ orZero (firstBeating 1 (pairsOf (take count (now (ends .entry))) (take count (now (lates .entry)))) (pairAt end late)) ⌝ }
+    ensures { λ r. ⌜ r ≡
+        orZero (firstBeating 1 (pairsOf (take count (now (ends .entry))) (take count (now (lates .entry)))) (pairAt end late)) ⌝ }
 {
     let mut i: usize = 0;
     while i < count {

@@ -1,5 +1,5 @@
--- Lists of rows and of ranks that match: the rows are those of the ranks, in any order. All rows match all ranks, and a match is kept as rows are taken out.
--- Assumes nothing.
+-- Lists of rows and of ranks that match: the rows are those of the ranks, in any order. All rows match all ranks, and a match is kept as
+-- rows are taken out. Assumes nothing.
 use Prim.Native.Nat.{ℕ, zero, suc, _+_, _≤_, _<_}
 use native.Mathlib.Omega.{arith}
 use native.Mathlib.Decide.{decLt}

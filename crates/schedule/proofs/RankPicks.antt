@@ -16,8 +16,8 @@ use Rattle.schedule.proofs.Orders.{length-without, mem-without}
 use Rattle.schedule.proofs.PickLaws.{Ahead, ahead-same, before-ahead, least-mem, least-ahead, run-step, run-stop}
 use Rattle.schedule.proofs.Matches.{Rank, Matches, row-in, rank-of, match-without}
 
--- Rows numbered anew from 1 to n: `row k` is the row of the number k, which has its job, and of rows with equal dues and earliest ends the smaller has
--- the smaller number.
+-- Rows numbered anew from 1 to n: `row k` is the row of the number k, which has its job, and of rows with equal dues and earliest ends
+-- the smaller has the smaller number.
 pub record Renumbers (n : ℕ) (job job′ : ℕ → Job) (row : ℕ → ℕ) : Type 0 where
   pub ties : (k l : ℕ) → 1 ≤ k → k < l → l ≤ n → job (row l) .due ≤ job (row k) .due → earliestEnd (job (row l)) ≤ earliestEnd (job (row k)) → row k ≤ row l
   pub same : (k : ℕ) → 1 ≤ k → k ≤ n → job′ k ≡ job (row k)

@@ -1,6 +1,6 @@
--- First come, first due: rows of which no two cross, and their one plan, by release, then due, then row.
--- `job` says of each row number what planning sees of the row, t is the desk's minute, `left` the rows. Rests on: Desk, Picks, Plans, Cover.
--- The proof is `arrival-promised`, in proofs/Arrival.antt.
+-- First come, first due: rows of which no two cross, and their one plan, by release, then due, then row. `job` says of each row number
+-- what planning sees of the row, t is the desk's minute, `left` the rows. Rests on: Desk, Picks, Plans, Cover. The proof is
+-- `arrival-promised`, in proofs/Arrival.antt.
 use Prim.Native.Nat.{ℕ, compare, _≤_, _<_}
 use mathlib.Core.Bool.{Bool, cond}
 use mathlib.Core.Path.{_≡_}

@@ -1,5 +1,5 @@
--- Property 3 of the definitions: what is promised of any rows in agreement, from any minute on. Its proof is `promised`, in proofs/Cover.antt.
--- Rests on: Desk, Picks, Plans.
+-- Property 3 of the definitions: what is promised of any rows in agreement, from any minute on. Its proof is `promised`, in
+-- proofs/Cover.antt. Rests on: Desk, Picks, Plans.
 use Prim.Native.Nat.{ℕ, _+_, _≤_, _<_}
 use mathlib.Core.Bool.{not}
 use mathlib.Core.Path.{_≡_}
@@ -50,7 +50,8 @@ module _ (job : ℕ → Job) (t : ℕ) (left : List ℕ) (orders : ℤ → Optio
     -- There is a plan, and there are no more plans than rows.
     pub few : (1 ≤ length (plans job t left)) × (length (plans job t left) ≤ length left)
     -- The order for a listed pair's lateness attains that pair.
-    pub attains : (p : Pair) → List·Memᴰ p (plans job t left) → (order : List ℕ) × (orders (p .late) ≡ some order) × Attains job t left order p
+    pub attains : (p : Pair) → List·Memᴰ p (plans job t left) →
+        (order : List ℕ) × (orders (p .late) ≡ some order) × Attains job t left order p
 
 -- The whole of property 3, for rows that agree. (Of no rows at all there is one plan, of the empty order: so at least one row.)
 abbrev pub Promised : Type 0
@@ -58,7 +59,8 @@ Promised = (job : ℕ → Job) (t : ℕ) (left : List ℕ) → Agreeing job left
 
 -- Asking for ever smaller bounds gives the list, where every lateness is a signed 32-bit number.
 abbrev pub SameList : Type 0
-SameList = (job : ℕ → Job) (t : ℕ) (left : List ℕ) → Agreeing job left → 0 < length left → Fits32 job t left → listByBounds job t left ≡ plans job t left
+SameList = (job : ℕ → Job) (t : ℕ) (left : List ℕ) → Agreeing job left → 0 < length left → Fits32 job t left →
+    listByBounds job t left ≡ plans job t left
 
 -- Idle plus all lengths equals end minus the minute at the start.
 abbrev pub IdleSum : Type 0

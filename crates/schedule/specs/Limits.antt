@@ -3,7 +3,8 @@
 use Prim.Native.Nat.{ℕ, _+_, _*_, _≤_}
 use lib.IntN.{ℤ, negsuc}
 
--- A book has at most so many rows. A column that a row number reads has one place more: row numbers count from 1, and place 0 is for no row.
+-- A book has at most so many rows. A column that a row number reads has one place more: row numbers count from 1, and place 0 is for no
+-- row.
 abbrev pub mostRows : ℕ
 mostRows = 256
 
@@ -27,8 +28,8 @@ latestBookEnd = 17680000
 abbrev pub leastLateness : ℤ
 leastLateness = negsuc 19999998
 
--- The longest time a row can take at the desk, and the latest minute at which planning can end: a desk that stands at 20,000,000 takes the most rows of
--- the longest time.
+-- The longest time a row can take at the desk, and the latest minute at which planning can end: a desk that stands at 20,000,000 takes
+-- the most rows of the longest time.
 abbrev pub longestTime : ℕ
 longestTime = 30030
 

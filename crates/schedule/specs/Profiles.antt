@@ -1,6 +1,6 @@
--- The profiles: what each asks of the rows, its list of plans, and its order for a bound.
--- `job` says of each row number what planning sees of the row, t is the desk's minute, `left` the rows. Rests on: Picks, Plans, Cover, Arrival.
--- The proof of `ProfilesPromised` is `profiles-promised`, in proofs/Profiles.antt.
+-- The profiles: what each asks of the rows, its list of plans, and its order for a bound. `job` says of each row number what planning
+-- sees of the row, t is the desk's minute, `left` the rows. Rests on: Picks, Plans, Cover, Arrival. The proof of `ProfilesPromised` is
+-- `profiles-promised`, in proofs/Profiles.antt.
 use Prim.Native.Nat.{ℕ, _<_}
 use mathlib.Core.Path.{_≡_}
 use mathlib.Core.List.{List, [], _∷_}
@@ -31,8 +31,8 @@ unfoldable pub orderBy : Profile → (ℕ → Job) → ℕ → List ℕ → ℤ 
 orderBy Ordering job t left y = orderFor job t left y
 orderBy FirstCome job t left y = arrivalFor job t left y
 
--- Of at least one row that keeps the rule, from any minute on: the profile's list is the list by its definition, the pairs that some order attains and no
--- order beats; and property 3 holds with its orders.
+-- Of at least one row that keeps the rule, from any minute on: the profile's list is the list by its definition, the pairs that some
+-- order attains and no order beats; and property 3 holds with its orders.
 abbrev pub ProfilesPromised : Type 0
 ProfilesPromised = (profile : Profile) (job : ℕ → Job) (t : ℕ) (left : List ℕ) → Obeys profile job left → 0 < length left →
     (plansBy profile job t left ≡ plans job t left) × PlansPromise job t left (orderBy profile job t left)

@@ -8,7 +8,8 @@ use lib.Signed.{_≤ℤ_}
 use Rattle.theory.specs.Jobs.{Job}
 use Rattle.schedule.specs.Desk.{OrderOf, endOf, pairOf}
 
--- The minute and every release are at most `top`, lengths lie between `short` and `long`, dues are at most `late`, and there are at most n rows.
+-- The minute and every release are at most `top`, lengths lie between `short` and `long`, dues are at most `late`, and there are at most
+-- n rows.
 pub record Ranged (top short long late n : ℕ) (job : ℕ → Job) (t : ℕ) (left : List ℕ) : Type 0 where
   pub early : t ≤ top
   pub few : length left ≤ n
@@ -18,4 +19,5 @@ pub record Ranged (top short long late n : ℕ) (job : ℕ → Job) (t : ℕ) (l
 abbrev pub InRange : Type 0
 InRange = (top short long late n : ℕ) (job : ℕ → Job) (t : ℕ) (left : List ℕ) → Ranged top short long late n job t left → 0 < length left →
     (order : List ℕ) → OrderOf left order →
-    (endOf job t order ≤ top + long * n) × (pairOf job t order .late ≤ℤ pos (top + long * n)) × (subℕ short late ≤ℤ pairOf job t order .late)
+    (endOf job t order ≤ top + long * n) × (pairOf job t order .late ≤ℤ pos (top + long * n)) ×
+    (subℕ short late ≤ℤ pairOf job t order .late)

@@ -41,7 +41,8 @@ pub record Added (r at : ℕ) (before bytes after : List ℕ) : Type 0 where
 -- The line of a plan: its numbers are those of the order that the call for its bound writes, into any buffer of one word for each row.
 abbrev pub Shown : (input book numbers : List ℕ) (rows plan end late : ℕ) → Type 0
 Shown input book numbers rows plan end late = (b : List ℕ) → length b ≡ rows → lineAt (prints input) plan ≡
-    some (record { end = end; late = signed late; numbers = map (λ i. getD numbers i 0) (boundCall orderingRule book (signed late) b .buffer) })
+    let order = boundCall orderingRule book (signed late) b .buffer in
+    some (record { end = end; late = signed late; numbers = map (λ i. getD numbers i 0) order })
 
 -- The day that a table holds, and its plans.
 abbrev pub dayIn : Table → Day

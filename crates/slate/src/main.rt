@@ -207,7 +207,8 @@ fn print_plan(input: &[u8], plan: usize, end: u32, late: u32, numbers: &[u32])
 fn order_numbers(book: &[u32], late: u32, numbers: &[u32; Desk::PLACES], order: &mut [u32])
     requires { ⌜ length (now numbers) ≡ rowPlaces ⌝ }
     ensures { λ _. ⌜ length (now (order .exit)) ≡ length (now (order .entry)) ⌝ }
-    ensures { λ _. ⌜ now (order .exit) ≡ map (λ i. getD (now (numbers .entry)) i 0) (boundCall orderingRule (now (book .entry)) (signed late) (now (order .entry)) .buffer) ⌝ }
+    ensures { λ _. ⌜ now (order .exit) ≡ map (λ i. getD (now (numbers .entry)) i 0)
+        (boundCall orderingRule (now (book .entry)) (signed late) (now (order .entry)) .buffer) ⌝ }
 {
     planner::order_for_bound(book, signed_of(late), order);
     name_rows(numbers, order);

@@ -1,5 +1,5 @@
--- `order_of_plan` meets its contract: the refusal of the book, then a number that is none of the plans, then the order for the plan's lateness.
--- Assumes nothing.
+-- `order_of_plan` meets its contract: the refusal of the book, then a number that is none of the plans, then the order for the plan's
+-- lateness. Assumes nothing.
 use borrow.Author.Needs.{needs}
 use denote.Ref.{now}
 use native.Mathlib.Omega.{arith}

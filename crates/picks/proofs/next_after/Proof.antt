@@ -1,5 +1,5 @@
--- `picks::next_after` meets its contract. The loop's invariant: the search for the least number of the set without i has come to the word q, which is w.
--- The measure is the words left. Assumes nothing.
+-- `picks::next_after` meets its contract. The loop's invariant: the search for the least number of the set without i has come to the word
+-- q, which is w. The measure is the words left. Assumes nothing.
 use borrow.Author.Needs.{needs}
 use native.Mathlib.Omega.{arith}
 use Prim.Native.Nat.{_<_, _≤_, _-_, _/_}

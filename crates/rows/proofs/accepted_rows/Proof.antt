@@ -1,5 +1,6 @@
--- `rows::accepted_rows` meets its contract: a walk of its MIR, by hand. The count is read through the reference. The slice that is handed back begins where the table's rows begin, and has as many elements: it is a part of what the table's `&` shares, at the same lifetime (`Lent.antt`).
--- Assumes nothing.
+-- `rows::accepted_rows` meets its contract: a walk of its MIR, by hand. The count is read through the reference. The slice that is handed
+-- back begins where the table's rows begin, and has as many elements: it is a part of what the table's `&` shares, at the same lifetime
+-- (`Lent.antt`). Assumes nothing.
 use mathlib.Core.Path.{_≡_, refl, sym}
 use Prim.Native.Nat.{ℕ, _+_, _≤_}
 use mathlib.Core.List.{List, [], _∷_}
@@ -93,7 +94,8 @@ module _ {M : Type 1} (𝓤 : URA M) (H : Heap 𝓤) (A : Atoms 𝓤) (W : Given
         move ! (9 ∷ []) $ fsplit ! $ use1 W (‵ Own ⊛ ‵ Own) (shr-copy 𝓤 H A W (named 0) κ TB .twice s (vptr b o ∷ [])) $ split ! $ use1 W (‵ Own ⊛ ‵ Own) (shr-copy 𝓤 H A W (named 0) κ TB .twice s (vptr b o ∷ [])) $ split ! $
         fsplit3 ! $ drop ! $ move ! (13 ∷ []) $ split ! $ move ! (3 ∷ 0 ∷ []) $ looks ! tt TB (Is TB) (shows 𝓤 H A TB) (LL.vals B.the-type B′.the-laws) (LL.tells B.the-type B′.the-laws) (LL.copy B.the-type B′.the-copy 𝓤 H A W) t b o (λ q′ vs.
         spelt ! TB (Is TB) (shows 𝓤 H A TB) (LL.vals B.the-type B′.the-laws) (LL.tells B.the-type B′.the-laws) q′ t vs b o $ move ! (1 ∷ []) $ peeks ! TB (Is TB) (shows 𝓤 H A TB) t (mach ∷ []) (λ g. move ! (1 ∷ 0 ∷ []) $
-        -- [a share of the table's cell; what it owns; what shuts it; the fractured borrow; true; res; what t owns; again; true; _3; …; _2; …; _1; …; room for _0; …]
+        -- [a share of the table's cell; what it owns; what shuts it; the fractured borrow; true; res; what t owns; again; true; _3; …;
+        -- _2; …; _1; …; room for _0; …]
         assigns ! (of-opd ! (load ! (from ! (hop ! (look ! 13 refl) (fld ! refl (stop !)))) (look-in ! 0 (sub ! 1 refl (whole !))))) (from ! (stop !)) (init ! 11 refl (tt, LL.lawful B.the-type B′.the-laws 𝓤 H A W .typed t _ g .0 .1 .1 .0)) $
         shuts ! tt TB q′ t (mach ∷ []) b o $
         assigns ! (addr ! (from ! (hop ! (look ! 11 refl) (fld ! refl (stop !))))) (from ! (stop !)) (init ! 7 refl (tt, tt)) $

@@ -1,6 +1,6 @@
--- `rows::columns_in` meets its contract: a walk of its MIR, by hand. The table is copied into memory and lent by `&` for a lifetime that is made for the two calls; the slice that `accepted_rows` returns is held in a local and passed to `columns_of`.
--- All that the proof knows of the two is that each meets its contract.
--- Assumes nothing.
+-- `rows::columns_in` meets its contract: a walk of its MIR, by hand. The table is copied into memory and lent by `&` for a lifetime that
+-- is made for the two calls; the slice that `accepted_rows` returns is held in a local and passed to `columns_of`. All that the proof
+-- knows of the two is that each meets its contract. Assumes nothing.
 use mathlib.Core.Path.{_≡_, refl, sym, _∙_, ap, subst}
 use Prim.Native.Nat.{ℕ, _≤_}
 use native.Mathlib.Omega.{arith}
@@ -155,7 +155,8 @@ module _ {M : Type 1} (𝓤 : URA M) (H : Heap 𝓤) (A : Atoms 𝓤) (W : Given
         owned ! TB (Is TB) (LL.makes B.the-type B′.the-plain 𝓤 H A) t _ is $ move ! (5 ∷ 0 ∷ []) $ use2 W (‵ (partAt TB fullShare t l₂ 0)) (part-in 𝓤 H A W TB refl fullShare t l₂ 0 mach) $
         lft-new ! tt (λ α. move ! (1 ∷ []) $
         use1 W (later (some (λ (γ : GName). ‵ (Ref (α ∷ []) l₂ γ) ⊛ ‵ (flent (α ∷ []) (partAt TB fullShare t l₂ 0))))) (lends-shr 𝓤 H A W TB (named 0) (α ∷ []) fullShare t l₂ 0) $ await ! tt $ pick ! (λ γ. split ! $
-        -- [the reference; the lender's part; the token; _4; …; room for _3; …; _2's death; _1; …; room for _0; …; true; what the parameters own]
+        -- [the reference; the lender's part; the token; _4; …; room for _3; …; _2's death; _1; …; room for _0; …; true; what the
+        -- parameters own]
         move ! (2 ∷ 0 ∷ []) $ use2 W (raw (Hc 𝓤 H A mem run .pre (to-h (α ∷ []) l₂ γ))) (goes-h (α ∷ []) l₂ γ) $
         calls-at ! fm (Hc 𝓤 H A mem run) known-h (to-h (α ∷ []) l₂ γ) (and-then ! (load ! (from ! (stop !)) (look ! 2 refl)) (no-more !)) (λ u.
         use1 W (later (some (λ (r : RefT (List Row)). (tok (α ∷ []) ⊛ ‵ (Slice (α ∷ []) r u)) ⊛ raw (ensured 𝓤 H A h.ended (h.clauses 𝓤 H A mem run) (α ∷ [], tt) (lentAt l₂ γ, tt) tt r)))) (id⊢ 𝓤 _) $ await ! tt $ pick ! (λ r.

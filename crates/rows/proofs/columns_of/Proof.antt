@@ -1,4 +1,5 @@
--- `rows::columns_of` meets its contract: a walk of its MIR, by hand, with a loop that stores into three local arrays. It calls `row_at` and `joined`, of which the proof knows the contracts alone. The slice is Copy: a copy of what it owns goes to each call.
+-- `rows::columns_of` meets its contract: a walk of its MIR, by hand, with a loop that stores into three local arrays. It calls `row_at`
+-- and `joined`, of which the proof knows the contracts alone. The slice is Copy: a copy of what it owns goes to each call.
 --     State ys     a turn's start: the index, the columns so far, and that they hold the rows before the index
 --     Inv          the context at a turn's start: each column is a row of elements in its local's memory
 -- Assumes nothing.

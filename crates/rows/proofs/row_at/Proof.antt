@@ -1,6 +1,6 @@
--- `rows::row_at` meets its contract: a walk of its MIR, by hand. The place of `rows[i]` is 24 · i past the slice's pointer, and the record is read there whole.
--- The code has no check of the bound: it is the contract's to ask. That 24 · i fits a word follows from the room that a slice has.
--- Assumes nothing.
+-- `rows::row_at` meets its contract: a walk of its MIR, by hand. The place of `rows[i]` is 24 · i past the slice's pointer, and the
+-- record is read there whole. The code has no check of the bound: it is the contract's to ask. That 24 · i fits a word follows from the
+-- room that a slice has. Assumes nothing.
 use mathlib.Core.Path.{refl, sym}
 use Prim.Native.Nat.{ℕ, _<_, _^_, _*_}
 use native.Mathlib.Omega.{arith}
@@ -93,7 +93,8 @@ module _ {M : Type 1} (𝓤 : URA M) (H : Heap 𝓤) (A : Atoms 𝓤) (W : Given
         move ! (13 ∷ []) $ fsplit ! $ fsplit ! $ move ! (1 ∷ []) $ fsplit ! $ move ! (16 ∷ []) $ split ! $ move ! (3 ∷ 0 ∷ []) $
         looks-slice ! tt R (Is R) (shows 𝓤 H A R) (LL.vals T.the-type T′.the-laws) (LL.tells T.the-type T′.the-laws) (LL.copy T.the-type T′.the-copy 𝓤 H A W) ys b o (λ q′.
         elem-out ! R (Is R) (shows 𝓤 H A R) (LL.vals T.the-type T′.the-laws) (LL.tells T.the-type T′.the-laws) q′ ys i noRow b o l (λ g.
-        -- [rows[i]; what it owns; the others; what shuts; the fractured borrow; true; res; rows's fact; i's; _5; …; _4; …; _3; …; _2; …; _1; …; _0; …]
+        -- [rows[i]; what it owns; the others; what shuts; the fractured borrow; true; res; rows's fact; i's; _5; …; _4; …; _3; …; _2; …;
+        -- _1; …; _0; …]
         assigns ! (of-opd ! (load ! (from ! (hop ! (look ! 11 refl) (stop !))) (look-raw ! 0 refl))) (from ! (stop !)) (init ! 9 refl (LL.lawful T.the-type T′.the-laws 𝓤 H A W .typed elem _ g .0)) $
         assigns ! (of-opd ! (load ! (from ! (stop !)) (look ! 9 refl))) (from ! (stop !)) (init ! 19 refl (LL.lawful T.the-type T′.the-laws 𝓤 H A W .typed elem _ g .0)) $
         elem-back ! R q′ ys i noRow (mach ∷ []) b o l $ shuts-slice ! tt R q′ ys b o $

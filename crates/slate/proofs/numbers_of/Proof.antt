@@ -1,5 +1,5 @@
--- `numbers_of` meets its contract. The invariant: the numbers of the rows passed stand at their places. The measure is what is left of the count.
--- Assumes nothing.
+-- `numbers_of` meets its contract. The invariant: the numbers of the rows passed stand at their places. The measure is what is left of
+-- the count. Assumes nothing.
 use borrow.Author.Needs.{needs}
 use Prim.Native.Nat.{ℕ, _≤_, _-_}
 use native.Mathlib.Omega.{arith}

@@ -1,5 +1,5 @@
--- `words_of` meets its contract. The invariant: the words taken, with those of the bytes that are left, are all. The measure is the room left.
--- Assumes nothing.
+-- `words_of` meets its contract. The invariant: the words taken, with those of the bytes that are left, are all. The measure is the room
+-- left. Assumes nothing.
 use borrow.Author.Needs.{needs}
 use Rattle.slate.proofs.words_of.Statement.{statement}
 use Rattle.slate.proofs.words_of.Tie as tie

@@ -1,5 +1,5 @@
--- `onward` meets its contract: from each desk the search has come to it goes on with a block, which the trail holds. Each block takes a row.
--- Assumes nothing.
+-- `onward` meets its contract: from each desk the search has come to it goes on with a block, which the trail holds. Each block takes a
+-- row. Assumes nothing.
 use borrow.Author.Needs.{needs}
 use Prim.Native.Nat.{ℕ, _-_, _+_}
 use mathlib.Core.List.{List}

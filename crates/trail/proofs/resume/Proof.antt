@@ -1,5 +1,5 @@
--- `resume` meets its contract: it goes on from the first block that holds the worst lateness, with block two, or leaves the search as it is.
--- Assumes nothing.
+-- `resume` meets its contract: it goes on from the first block that holds the worst lateness, with block two, or leaves the search as it
+-- is. Assumes nothing.
 use borrow.Author.Needs.{needs}
 use Prim.Native.Nat.{suc, _-_}
 use mathlib.Core.Path.{_≡_}
