@@ -29,8 +29,10 @@ pub struct Front {
 // The largest bound: the largest signed 32-bit number, raised by 2^31.
 const LARGEST_BOUND: u32 = 4_294_967_295;
 
-// The rows up to which a day is small.
+// The rows up to which a day is small, and up to which it is of middle size.
 const SMALL_DAY: usize = 24;
+
+const MIDDLE_DAY: usize = 64;
 
 // The place of the next pair on the list: that of the last pair where both have one end, otherwise the place after it.
 fn pair_place(ends: &[u32; Desk::ROWS], count: usize, end: u32) -> usize
@@ -139,6 +141,10 @@ pub fn list_ranked(
 {
     if n <= SMALL_DAY {
         let mut trail: [[u64; 10]; SMALL_DAY] = [[0; 10]; SMALL_DAY];
+        return list_along(release, minutes, due, by, n, free, &mut trail);
+    }
+    if n <= MIDDLE_DAY {
+        let mut trail: [[u64; 10]; MIDDLE_DAY] = [[0; 10]; MIDDLE_DAY];
         return list_along(release, minutes, due, by, n, free, &mut trail);
     }
     let mut trail: [[u64; 10]; Desk::ROWS] = [[0; 10]; Desk::ROWS];
