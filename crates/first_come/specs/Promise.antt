@@ -2,7 +2,7 @@
 -- `lent-memory`, `definitions-hold` and `calls-keep-promise`, in proofs/Promise.antt.
 --
 -- The contract of each offered function says that its answer and its buffer at exit are those of its call by these terms, whatever it is
--- lent and told. What properties 1 and 3 say of a profile is in the calls' Promise. Rests on: the calls' Promise, the schedule's Arrival,
+-- lent and told. What properties 1 and 3 say of a profile is in CallsPromise. Rests on: CallsPromise, the schedule's Arrival,
 -- the readers.
 use Prim.Native.Nat.{ℕ, _≤_}
 use mathlib.Core.Path.{_≡_}

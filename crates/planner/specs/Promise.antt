@@ -2,9 +2,9 @@
 -- `definitions-hold` and `calls-keep-promise`, in proofs/Promise.antt.
 --
 -- The contract of each offered function says that its answer and its buffer at exit are those of its call (list, order_for_bound,
--- order_of_plan, verdict: Calls; row_place, row_words: the readers' Places) by these terms, whatever it is lent and told. So what is said
--- here of the calls holds of the functions. What the properties say is said of any profile, in the calls' Promise. Rests on: the calls'
--- Promise, the readers, the book.
+-- order_of_plan, verdict: Calls; row_place, row_words: Places of row_calls) by these terms, whatever it is lent and told. So what is said
+-- here of the calls holds of the functions. What the properties say is said of any profile, in CallsPromise. Rests on:
+-- CallsPromise, the readers, the book.
 use Prim.Native.Nat.{ℕ}
 use mathlib.Core.Path.{_≡_}
 use mathlib.Core.List.{List}

@@ -17,17 +17,21 @@ first-beating-requires c κs = search needs
 
 returns : tie.Need-returns
 returns c =
+    let b = c .before .first-beating in
+    let w = c .before .before .lower in
     let a = c .before .before .before .args in
     let d = a .desk in
-    judge-none (pairsOf (take (a .count) (a .ends .now)) (take (a .count) (a .lates .now))) (pairAt (d .minute) (d .worst)) _ (c .before .first-beating .result)
-    (lowered-word (d .worst) (c .before .before .lower .result) (omega arith) (c .before .before .lower .ensures)) (c .before .first-beating .ensures) (c .if1 .taken)
+    judge-none (pairsOf (take (a .count) (a .ends .now)) (take (a .count) (a .lates .now))) (pairAt (d .minute) (d .worst)) _ (b .result)
+    (lowered-word (d .worst) (w .result) (omega arith) (w .ensures)) (b .ensures) (c .if1 .taken)
 
 returns-2 : tie.Need-returns-2
 returns-2 c =
+    let b = c .before .first-beating in
+    let w = c .before .before .lower in
     let a = c .before .before .before .args in
     let d = a .desk in
-    judge-some (pairsOf (take (a .count) (a .ends .now)) (take (a .count) (a .lates .now))) (pairAt (d .minute) (d .worst)) _ (c .before .first-beating .result)
-    (lowered-word (d .worst) (c .before .before .lower .result) (omega arith) (c .before .before .lower .ensures)) (c .before .first-beating .ensures) (c .if1 .left)
+    judge-some (pairsOf (take (a .count) (a .ends .now)) (take (a .count) (a .lates .now))) (pairAt (d .minute) (d .worst)) _ (b .result)
+    (lowered-word (d .worst) (w .result) (omega arith) (w .ensures)) (b .ensures) (c .if1 .left)
 
 pub judge-spec : {M : Type 1} → statement M
 judge-spec = tie.close (tie.spec lower-requires first-beating-requires returns returns-2)

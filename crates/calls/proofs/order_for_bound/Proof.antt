@@ -8,9 +8,15 @@ use Rattle.readers.proofs.Readings.{given-refused}
 use Rattle.calls.specs.Calls.{orderOutcome}
 use Rattle.calls.proofs.CallLaws.{bound-refused}
 use Rattle.calls.proofs.Answered.{bound-back}
-use Rattle.calls.proofs.Ready.{planningBy, ready}
+use Rattle.calls.proofs.Ready.{Ready, planningBy, ready}
 use Rattle.calls.proofs.order_for_bound.Statement.{statement}
 use Rattle.calls.proofs.order_for_bound.Tie as tie
+
+-- The book is accepted, and its rows can be planned.
+planned : (c : tie.After-enum-told) →
+    let a = c .before .before .before .before .before .args in
+    Ready (a .terms) (now (a .book)) (c .before .before .read .result)
+planned c = ready _ _ (c .before .before .read .result) (c .before .before .read .ensures) (c .enum-told .given .1)
 
 read-requires : tie.Need-read-requires
 read-requires c κs = search needs
@@ -20,9 +26,10 @@ enum-known-outcome c = search needs
 
 returns : tie.Need-returns
 returns c =
+    let r = c .before .before .before .read in
     let a = c .before .before .before .before .before .before .args in
     let g = c .before .outcome .given in
-    let refused = given-refused _ (c .before .before .before .read .result) (g .0 .0) (g .0 .1 .0) (c .before .before .before .read .ensures) (g .1) in
+    let refused = given-refused _ (r .result) (g .0 .0) (g .0 .1 .0) (r .ensures) (g .1) in
     sym (bound-refused (a .terms) (now (a .book)) (g .0 .0) (g .0 .1 .0) refused (a .bound) (a .result .now))
 
 enum-told : tie.Need-enum-told
@@ -32,9 +39,7 @@ raise-requires : tie.Need-raise-requires
 raise-requires c κs = search needs
 
 order-into-requires : tie.Need-order-into-requires
-order-into-requires c κs =
-    let a = c .before .before .before .before .before .before .before .before .before .before .before .args in
-    ready (a .terms) (now (a .book)) (c .before .before .before .before .before .before .before .before .read .result) (c .before .before .before .before .before .before .before .before .read .ensures) (c .before .before .before .before .before .before .enum-told .given .1) .plannable
+order-into-requires c κs = planned (c .before .before .before .before .before .before) .plannable
 
 same-length : tie.Need-same-length
 same-length c = search needs
@@ -46,7 +51,7 @@ returns-2 c =
     let r = c .before .before .before .before .before .before .before .before .before .before .before .read .result in
     let y = bound-back (a .bound) (c .before .before .before .before .raise .result) (s .fits .bound) (c .before .before .before .before .raise .ensures) in
     c .before .before .order-into .ensures ∙ ap (λ (z : ℤ). orderOutcome (planningBy (a .terms) r) z (a .result .now)) y ∙
-    ready (a .terms) (now (a .book)) r (c .before .before .before .before .before .before .before .before .before .before .before .read .ensures) (c .before .before .before .before .before .before .before .before .before .enum-told .given .1) .bound (a .bound) (a .result .now)
+    planned (c .before .before .before .before .before .before .before .before .before) .bound (a .bound) (a .result .now)
 
 pub order-for-bound-spec : {M : Type 1} → statement M
 order-for-bound-spec =

@@ -7,9 +7,15 @@ use mathlib.Core.Path.{sym, _∙_}
 use Rattle.readers.proofs.Readings.{given-refused}
 use Rattle.calls.proofs.CallLaws.{plan-refused}
 use Rattle.calls.proofs.Answered.{front-sized, plan-none, plan-past, plan-done}
-use Rattle.calls.proofs.Ready.{ready}
+use Rattle.calls.proofs.Ready.{Ready, ready}
 use Rattle.calls.proofs.order_of_plan.Statement.{statement}
 use Rattle.calls.proofs.order_of_plan.Tie as tie
+
+-- The book is accepted, and its rows can be planned.
+planned : (c : tie.After-enum-told) →
+    let a = c .before .before .before .before .before .args in
+    Ready (a .terms) (now (a .book)) (c .before .before .read .result)
+planned c = ready _ _ (c .before .before .read .result) (c .before .before .read .ensures) (c .enum-told .given .1)
 
 read-requires : tie.Need-read-requires
 read-requires c κs = search needs
@@ -19,9 +25,10 @@ enum-known-outcome c = search needs
 
 returns : tie.Need-returns
 returns c =
+    let r = c .before .before .before .read in
     let a = c .before .before .before .before .before .before .args in
     let g = c .before .outcome .given in
-    let refused = given-refused _ (c .before .before .before .read .result) (g .0 .0) (g .0 .1 .0) (c .before .before .before .read .ensures) (g .1) in
+    let refused = given-refused _ (r .result) (g .0 .0) (g .0 .1 .0) (r .ensures) (g .1) in
     sym (plan-refused (a .terms) (now (a .book)) (g .0 .0) (g .0 .1 .0) refused (a .plan) (a .result .now))
 
 enum-told : tie.Need-enum-told
@@ -29,21 +36,22 @@ enum-told c = search needs
 
 list-requires : tie.Need-list-requires
 list-requires c κs =
-    let a = c .before .before .before .before .before .before .before .before .before .args in
-    let p = ready (a .terms) (now (a .book)) (c .before .before .before .before .before .before .read .result) (c .before .before .before .before .before .before .read .ensures) (c .before .before .before .before .enum-told .given .1) .plannable in
+    let p = planned (c .before .before .before .before) .plannable in
     (p .limits, (p .low, p .few, p .early, p .rule))
 
 returns-2 : tie.Need-returns-2
 returns-2 c =
+    let l = c .before .list in
     let a = c .before .before .before .before .before .before .before .before .before .before .before .args in
-    let y = ready (a .terms) (now (a .book)) (c .before .before .before .before .before .before .before .before .read .result) (c .before .before .before .before .before .before .before .before .read .ensures) (c .before .before .before .before .before .before .enum-told .given .1) in
-    plan-none (y .plannable) (c .before .list .result) (c .before .list .ensures) (a .plan) (c .if1 .taken) (a .result .now) ∙ y .plan (a .plan) (a .result .now)
+    let y = planned (c .before .before .before .before .before .before) in
+    plan-none (y .plannable) (l .result) (l .ensures) (a .plan) (c .if1 .taken) (a .result .now) ∙ y .plan (a .plan) (a .result .now)
 
 returns-3 : tie.Need-returns-3
 returns-3 c =
+    let l = c .before .before .list in
     let a = c .before .before .before .before .before .before .before .before .before .before .before .before .args in
-    let y = ready (a .terms) (now (a .book)) (c .before .before .before .before .before .before .before .before .before .read .result) (c .before .before .before .before .before .before .before .before .before .read .ensures) (c .before .before .before .before .before .before .before .enum-told .given .1) in
-    plan-past (y .plannable) (c .before .before .list .result) (c .before .before .list .ensures) (a .plan) (c .if2 .taken) (a .result .now) ∙ y .plan (a .plan) (a .result .now)
+    let y = planned (c .before .before .before .before .before .before .before) in
+    plan-past (y .plannable) (l .result) (l .ensures) (a .plan) (c .if2 .taken) (a .result .now) ∙ y .plan (a .plan) (a .result .now)
 
 sub-late : tie.Need-sub-late
 sub-late c = search needs
@@ -53,24 +61,23 @@ mul-late c = search needs
 
 element-copy-out-late : tie.Need-element-copy-out-late
 element-copy-out-late c =
-    let a = c .before .before .before .before .before .before .before .before .before .before .before .before .args in
-    let y = ready (a .terms) (now (a .book)) (c .before .before .before .before .before .before .before .before .before .read .result) (c .before .before .before .before .before .before .before .before .before .read .ensures) (c .before .before .before .before .before .before .before .enum-told .given .1) in
-    let s = front-sized (y .plannable) (c .before .before .list .result) (c .before .before .list .ensures) in
+    let l = c .before .before .list in
+    let y = planned (c .before .before .before .before .before .before .before) in
+    let s = front-sized (y .plannable) (l .result) (l .ensures) in
     omega (arith, s .few, c .if2 .left)
 
 order-into-requires : tie.Need-order-into-requires
-order-into-requires c κs =
-    let a = c .before .before .before .before .before .before .before .before .before .before .before .before .before .before .before .before .before .before .args in
-    ready (a .terms) (now (a .book)) (c .before .before .before .before .before .before .before .before .before .before .before .before .before .before .before .read .result) (c .before .before .before .before .before .before .before .before .before .before .before .before .before .before .before .read .ensures) (c .before .before .before .before .before .before .before .before .before .before .before .before .before .enum-told .given .1) .plannable
+order-into-requires c κs = planned (c .before .before .before .before .before .before .before .before .before .before .before .before .before) .plannable
 
 same-length : tie.Need-same-length
 same-length c = search needs
 
 returns-4 : tie.Need-returns-4
 returns-4 c =
+    let l = c .before .before .before .before .before .before .before .before .before .before .before .list in
     let a = c .before .before .before .before .before .before .before .before .before .before .before .before .before .before .before .before .before .before .before .before .before .args in
-    let y = ready (a .terms) (now (a .book)) (c .before .before .before .before .before .before .before .before .before .before .before .before .before .before .before .before .before .before .read .result) (c .before .before .before .before .before .before .before .before .before .before .before .before .before .before .before .before .before .before .read .ensures) (c .before .before .before .before .before .before .before .before .before .before .before .before .before .before .before .before .enum-told .given .1) in
-    plan-done (y .plannable) (c .before .before .before .before .before .before .before .before .before .before .before .list .result) (c .before .before .before .before .before .before .before .before .before .before .before .list .ensures) (a .plan) (omega (arith, c .before .before .before .before .before .before .before .before .before .before .if1 .left)) (c .before .before .before .before .before .before .before .before .before .if2 .left) (a .result .now) _ (c .before .before .order-into .ensures) ∙
+    let y = planned (c .before .before .before .before .before .before .before .before .before .before .before .before .before .before .before .before) in
+    plan-done (y .plannable) (l .result) (l .ensures) (a .plan) (omega (arith, c .before .before .before .before .before .before .before .before .before .before .if1 .left)) (c .before .before .before .before .before .before .before .before .before .if2 .left) (a .result .now) _ (c .before .before .order-into .ensures) ∙
     y .plan (a .plan) (a .result .now)
 
 pub order-of-plan-spec : {M : Type 1} → statement M
