@@ -35,9 +35,11 @@ use Rattle.calls.specs.declared.OrderAnswer.{OrderAnswer}
 use Rattle.calls.specs.declared.OrderAnswer.the-variants as order-answer
 use Rattle.calls.specs.declared.VerdictAnswer.{VerdictAnswer}
 use Rattle.calls.specs.declared.VerdictAnswer.the-variants as verdict-answer
-use Rattle.calls.specs.Calls.{Outcome, gives, nth, Planning, planningIn, judgedOf, listOutcome, orderOutcome, planOutcome, verdictOutcome}
+use Rattle.calls.specs.Calls.{Outcome, gives, nth, Planning, planningIn, judgedOf, listOutcome, orderOutcome, planOutcome}
+use Rattle.calls.specs.Calls.{verdictOutcome}
 use Rattle.calls.specs.Plannable.{Plannable}
-use Rattle.calls.proofs.CallLaws.{list-narrow, list-is, plan-is, plan-unlisted, verdict-no, verdict-is, order-narrow, order-some, order-none}
+use Rattle.calls.proofs.CallLaws.{list-narrow, list-is, plan-is, plan-unlisted, verdict-no, verdict-is, order-narrow, order-some}
+use Rattle.calls.proofs.CallLaws.{order-none}
 use Rattle.calls.proofs.Plans.{nth-in, nth-zero, nth-out}
 use Rattle.calls.proofs.Columns.{sound-in, order-lowers, plan-lowers, posting-order, posting-length}
 
@@ -60,7 +62,8 @@ module _ {profile : Profile} {job : ℕ → Job} {t n : ℕ} (p : Plannable prof
     front-held : held f ≡ g .plans
     front-held = plans-held (g .plans) n f h (plan-lowers p)
 
-    pub list-done : (b after : List ℕ) → 2 * n ≤ length b → after ≡ written (planWords (held f)) b → gives (list-answer.Plans (f .count)) after ≡ listOutcome g b
+    pub list-done : (b after : List ℕ) → 2 * n ≤ length b → after ≡ written (planWords (held f)) b →
+        gives (list-answer.Plans (f .count)) after ≡ listOutcome g b
     list-done b after wide e =
         (λ x. gives (list-answer.Plans (h .counted x)) ((e ∙ ap (λ (ps : List Pair). written (planWords ps) b) front-held) x)) ∙
         sym (list-is g b (omega (arith, rows-length)))
@@ -76,7 +79,8 @@ module _ {profile : Profile} {job : ℕ → Job} {t n : ℕ} (p : Plannable prof
         ap (λ (m : ℕ). gives (order-answer.Refused 11 m) b) (h .counted) ∙
         sym (plan-unlisted g k b (nth-out (g .plans) k (omega (arith, h .counted))))
 
-    pub plan-done : (k : ℕ) → 1 ≤ k → k ≤ f .count → (b : List ℕ) (o : Outcome OrderAnswer) → o ≡ orderOutcome g (lowered (getD (f .lates) (k - 1) 0)) b →
+    pub plan-done : (k : ℕ) → 1 ≤ k → k ≤ f .count → (b : List ℕ) (o : Outcome OrderAnswer) →
+        o ≡ orderOutcome g (lowered (getD (f .lates) (k - 1) 0)) b →
         o ≡ planOutcome g k b
     plan-done k l m b o e =
         let q : Pair = pairAt (getD (f .ends) (k - 1) 0) (getD (f .lates) (k - 1) 0) in
@@ -86,7 +90,8 @@ module _ {profile : Profile} {job : ℕ → Job} {t n : ℕ} (p : Plannable prof
 
     -- The verdict.
     pub verdict-done : (posting : List ℕ) → postingTests n posting ≡ tested.Passed → (desk : Desk) → Followed job t posting desk →
-        (v : VerdictAnswer) → v ≡ judgedOf (pairAt (desk .minute) (desk .worst)) (firstBeating 1 (held f) (pairAt (desk .minute) (desk .worst))) →
+        (v : VerdictAnswer) → v ≡
+        judgedOf (pairAt (desk .minute) (desk .worst)) (firstBeating 1 (held f) (pairAt (desk .minute) (desk .worst))) →
         v ≡ verdictOutcome g posting
     verdict-done posting passed desk d v r =
         let some-row : 1 ≤ length posting = omega (arith, posting-length p posting passed, p .low) in
@@ -98,24 +103,29 @@ module _ {profile : Profile} {job : ℕ → Job} {t n : ℕ} (p : Plannable prof
   pub list-short : (b : List ℕ) → length b < 2 * n → gives (list-answer.Refused 9 0) b ≡ listOutcome g b
   list-short b h = sym (list-narrow g b (omega (arith, rows-length)))
 
-  pub verdict-stray : (posting : List ℕ) (m q : ℕ) → postingTests n posting ≡ tested.Refused m q → verdict-answer.Refused m q ≡ verdictOutcome g posting
-  verdict-stray posting m q e = sym (verdict-no g posting m q (subst (λ (k : ℕ). postingTests k posting ≡ tested.Refused m q) (sym rows-length) e))
+  pub verdict-stray : (posting : List ℕ) (m q : ℕ) → postingTests n posting ≡ tested.Refused m q →
+      verdict-answer.Refused m q ≡ verdictOutcome g posting
+  verdict-stray posting m q e =
+      sym (verdict-no g posting m q (subst (λ (k : ℕ). postingTests k posting ≡ tested.Refused m q) (sym rows-length) e))
 
   pub order-short : (y : ℤ) (b : List ℕ) → length b < n → gives (order-answer.Refused 9 0) b ≡ orderOutcome g y b
   order-short y b h = sym (order-narrow g y b (omega (arith, rows-length)))
 
   -- The order that is written is the one for the bound.
-  module _ (bound : ℕ) (b : List ℕ) (wide : n ≤ length b) (answer : Planned) (after : List ℕ) (r : OrderGiven job t (g .orders (lowered bound)) bound b answer after) where
+  module _ (bound : ℕ) (b : List ℕ) (wide : n ≤ length b) (answer : Planned) (after : List ℕ)
+      (r : OrderGiven job t (g .orders (lowered bound)) bound b answer after) where
     abbrev y : ℤ
     y = lowered bound
 
-    unkept-by : (o : Option (List ℕ)) → g .orders y ≡ o → plannedOf job t o ≡ Unkept → gives (order-answer.Refused 12 0) (writtenOf o b) ≡ orderOutcome g y b
+    unkept-by : (o : Option (List ℕ)) → g .orders y ≡ o → plannedOf job t o ≡ Unkept →
+        gives (order-answer.Refused 12 0) (writtenOf o b) ≡ orderOutcome g y b
     unfolding plannedOf writtenOf
     unkept-by none f u = sym (order-none g y b (omega (arith, rows-length)) f)
     unkept-by (some order) f u = never (cc)
 
     pub order-unkept : answer ≡ Unkept → gives (order-answer.Refused 12 0) after ≡ orderOutcome g y b
-    order-unkept u = ap (λ (w : List ℕ). gives (order-answer.Refused 12 0) w) (r .buffer) ∙ unkept-by (g .orders y) refl (sym (r .answered) ∙ u)
+    order-unkept u = ap (λ (w : List ℕ). gives (order-answer.Refused 12 0) w) (r .buffer) ∙
+        unkept-by (g .orders y) refl (sym (r .answered) ∙ u)
 
     kept-by : (o : Option (List ℕ)) → g .orders y ≡ o → (end late : ℕ) → plannedOf job t o ≡ Kept end late →
         gives (order-answer.Pair end (lowered late)) (writtenOf o b) ≡ orderOutcome g y b
@@ -130,7 +140,8 @@ module _ {profile : Profile} {job : ℕ → Job} {t n : ℕ} (p : Plannable prof
         sym (order-some g y b (omega (arith, rows-length)) order f)
 
     pub order-kept : (end late : ℕ) → answer ≡ Kept end late → gives (order-answer.Pair end (lowered late)) after ≡ orderOutcome g y b
-    order-kept end late k = ap (λ (w : List ℕ). gives (order-answer.Pair end (lowered late)) w) (r .buffer) ∙ kept-by (g .orders y) refl end late (sym (r .answered) ∙ k)
+    order-kept end late k = ap (λ (w : List ℕ). gives (order-answer.Pair end (lowered late)) w) (r .buffer) ∙
+        kept-by (g .orders y) refl end late (sym (r .answered) ∙ k)
 
 -- A number from 1 on is never 0: so 0 says that there is none.
 beating-from : (k : ℕ) (ps : List Pair) (q : Pair) → 1 ≤ k → (n : ℕ) → firstBeating k ps q ≡ some n → 1 ≤ n

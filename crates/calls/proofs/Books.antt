@@ -86,25 +86,31 @@ module _ (terms : Terms) where
 
   -- Property 1.
   module _ (book : List ℕ) where
+    sound : (day : Day) → readBy terms book ≡ accepted day → Sound (planningOf (terms .profile) day)
+    sound day e = day-sound (accepted-day terms book day e)
+
     numbered : (n p : ℕ) → readBy terms book ≡ refused n p → InTable n
     numbered n p e = book-number (terms .profile) n (refused-numbered terms book n p e)
 
     list-lent : (b : List ℕ) (x : Contents) → readBy terms book ≡ x → LentMemory InTable list-answer.Refused (listCall terms book b) b
     list-lent b (refused n p) e = rw (list-refused terms book n p e b) (list-no InTable n p b (numbered n p e))
     list-lent b (accepted day) e =
-        rw (list-of terms book day e b) (list-memory InTable (told (terms .profile)) (planningOf (terms .profile) day) (day-sound (accepted-day terms book day e)) b)
+        rw (list-of terms book day e b) (list-memory InTable (told (terms .profile)) (planningOf (terms .profile) day) (sound day e) b)
 
-    bound-lent : (y : ℤ) (b : List ℕ) (x : Contents) → readBy terms book ≡ x → LentMemory InTable order-answer.Refused (boundCall terms book y b) b
+    bound-lent : (y : ℤ) (b : List ℕ) (x : Contents) → readBy terms book ≡ x →
+        LentMemory InTable order-answer.Refused (boundCall terms book y b) b
     bound-lent y b (refused n p) e = rw (bound-refused terms book n p e y b) (order-no InTable n p b (numbered n p e))
     bound-lent y b (accepted day) e =
-        rw (bound-of terms book day e y b) (order-memory InTable (told (terms .profile)) (planningOf (terms .profile) day) (day-sound (accepted-day terms book day e)) y b)
+        rw (bound-of terms book day e y b) (order-memory InTable (told (terms .profile)) (planningOf (terms .profile) day) (sound day e) y b)
 
-    plan-lent : (k : ℕ) (b : List ℕ) (x : Contents) → readBy terms book ≡ x → LentMemory InTable order-answer.Refused (planCall terms book k b) b
+    plan-lent : (k : ℕ) (b : List ℕ) (x : Contents) → readBy terms book ≡ x →
+        LentMemory InTable order-answer.Refused (planCall terms book k b) b
     plan-lent k b (refused n p) e = rw (plan-refused terms book n p e k b) (order-no InTable n p b (numbered n p e))
     plan-lent k b (accepted day) e =
-        rw (plan-of terms book day e k b) (plan-memory InTable (told (terms .profile)) (planningOf (terms .profile) day) (day-sound (accepted-day terms book day e)) k b)
+        rw (plan-of terms book day e k b) (plan-memory InTable (told (terms .profile)) (planningOf (terms .profile) day) (sound day e) k b)
 
-    verdict-lent : (posting : List ℕ) (n p : ℕ) → verdictCall terms book posting ≡ verdict-answer.Refused n p → (x : Contents) → readBy terms book ≡ x → InTable n
+    verdict-lent : (posting : List ℕ) (n p : ℕ) → verdictCall terms book posting ≡ verdict-answer.Refused n p → (x : Contents) →
+        readBy terms book ≡ x → InTable n
     verdict-lent posting n p v (refused m q) e =
         let k : m ≡ n = refusal-is m q (sym (verdict-refused terms book m q e posting) ∙ v) in
         subst InTable k (numbered m q e)
@@ -112,13 +118,15 @@ module _ (terms : Terms) where
         refusal-is : (m q : ℕ) → verdict-answer.Refused m q ≡ verdict-answer.Refused n p → m ≡ n
         refusal-is m q e = cc
     verdict-lent posting n p v (accepted day) e =
-        verdict-memory InTable (told (terms .profile)) (planningOf (terms .profile) day) (day-sound (accepted-day terms book day e)) posting n p
+        verdict-memory InTable (told (terms .profile)) (planningOf (terms .profile) day) (sound day e) posting n p
         (sym (verdict-of terms book day e posting) ∙ v)
 
-    row-lent : (k n p : ℕ) → placeBy terms book k ≡ row-place.Refused n p → (x : Contents) → readBy terms book ≡ x → InTable n × (wordsBy terms book k ≡ [])
+    row-lent : (k n p : ℕ) → placeBy terms book k ≡ row-place.Refused n p → (x : Contents) → readBy terms book ≡ x →
+        InTable n × (wordsBy terms book k ≡ [])
     row-lent k n p f x e = (row-number x e (sym (ap (λ (x : Contents). placeIn x k) e) ∙ f), ap (λ (x : RowPlace). rowWordsAt x book) f)
       where
-        unlisted : (b : Bool) (m : ℕ) → cond b (row-place.Refused byUnlisted m) (row-place.At (numberWord k)) ≡ row-place.Refused n p → n ≡ byUnlisted
+        unlisted : (b : Bool) (m : ℕ) → cond b (row-place.Refused byUnlisted m) (row-place.At (numberWord k)) ≡ row-place.Refused n p →
+            n ≡ byUnlisted
         unlisted true m h = cc
         unlisted false m h = never (cc)
 

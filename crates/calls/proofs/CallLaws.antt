@@ -65,7 +65,8 @@ module _ (g : Planning) where
   unfolding listOutcome
   list-narrow b h = rw (lt-ltb (length b) (2 * length (g .left)) h, listOutcome)
 
-  pub list-is : (b : List ℕ) → 2 * length (g .left) ≤ length b → listOutcome g b ≡ gives (list-answer.Plans (length (g .plans))) (written (planWords (g .plans)) b)
+  pub list-is : (b : List ℕ) → 2 * length (g .left) ≤ length b →
+      listOutcome g b ≡ gives (list-answer.Plans (length (g .plans))) (written (planWords (g .plans)) b)
   unfolding listOutcome
   list-is b h = rw (le-ltb (length b) (2 * length (g .left)) h, listOutcome)
 
@@ -73,7 +74,8 @@ module _ (g : Planning) where
   unfolding planOutcome
   plan-is k p b e = rw (e, planOutcome)
 
-  pub plan-unlisted : (k : ℕ) (b : List ℕ) → nth (g .plans) k ≡ none → planOutcome g k b ≡ gives (order-answer.Refused byUnlisted (length (g .plans))) b
+  pub plan-unlisted : (k : ℕ) (b : List ℕ) → nth (g .plans) k ≡ none →
+      planOutcome g k b ≡ gives (order-answer.Refused byUnlisted (length (g .plans))) b
   unfolding planOutcome
   plan-unlisted k b e = rw (e, planOutcome)
 

@@ -29,7 +29,8 @@ use Rattle.calls.specs.declared.ListAnswer.the-variants as list-answer
 use Rattle.calls.specs.declared.OrderAnswer.the-variants as order-answer
 use Rattle.calls.specs.Calls.{gives, nth, Planning, planningIn, judgedOf, listOutcome, orderOutcome, planOutcome, verdictOutcome}
 use Rattle.calls.specs.Plannable.{Plannable}
-use Rattle.calls.proofs.CallLaws.{list-narrow, list-is, plan-is, plan-unlisted, verdict-no, verdict-is, order-narrow, order-some, order-none}
+use Rattle.calls.proofs.CallLaws.{list-narrow, list-is, plan-is, plan-unlisted, verdict-no, verdict-is, order-narrow, order-some}
+use Rattle.calls.proofs.CallLaws.{order-none}
 use Rattle.calls.proofs.Kept.{Sound, posted}
 
 module _ {profile : Profile} {job : ℕ → Job} {t n : ℕ} (p : Plannable profile job t n) where
@@ -88,7 +89,8 @@ module _ {profile : Profile} {job : ℕ → Job} {t n : ℕ} (p : Plannable prof
         small (x ∷ l) (suc k) h = small l k (λ i m. h i (List·Memᴰ·tail m))
 
 -- Jobs that are the same on the rows: the calls on them give the same.
-module _ {profile : Profile} {job job′ : ℕ → Job} {t n : ℕ} (p : Plannable profile job t n) (same : (i : ℕ) → List·Memᴰ i (countFrom 1 n) → job i ≡ job′ i) where
+module _ {profile : Profile} {job job′ : ℕ → Job} {t n : ℕ} (p : Plannable profile job t n)
+    (same : (i : ℕ) → List·Memᴰ i (countFrom 1 n) → job i ≡ job′ i) where
   abbrev g : Planning
   g = planningIn profile job t n
 

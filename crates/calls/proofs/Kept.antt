@@ -56,7 +56,8 @@ module _ (g : Planning) (s : Sound g) where
   pair order = pairOf (g .job) (g .minute) order
 
   -- The list, by its definition.
-  list-front : (b : List ℕ) → 2 * length (g .left) ≤ length b → listOutcome g b ≡ gives (list-answer.Plans (length defined)) (written (planWords defined) b)
+  list-front : (b : List ℕ) → 2 * length (g .left) ≤ length b →
+      listOutcome g b ≡ gives (list-answer.Plans (length defined)) (written (planWords defined) b)
   list-front b h = list-is g b h ∙ ap (λ (ps : List Pair). gives (list-answer.Plans (length ps)) (written (planWords ps) b)) (s .front)
 
   plan-front : (k : ℕ) (p : Pair) (c : List ℕ) → nth defined k ≡ some p → planOutcome g k c ≡ orderOutcome g (p .late) c
@@ -124,13 +125,15 @@ module _ (g : Planning) (s : Sound g) where
   }
 
   -- The order for a bound, by what the definition gives.
-  number-unkept : (y : ℤ) (c : List ℕ) → length (g .left) ≤ length c → saidOrder (orderOutcome g y c .answer) .number ≡ 12 → g .orders y ≡ none
+  number-unkept : (y : ℤ) (c : List ℕ) → length (g .left) ≤ length c → saidOrder (orderOutcome g y c .answer) .number ≡ 12 →
+      g .orders y ≡ none
   number-unkept y c wide h = step (g .orders y) refl
     where
       step : (o : Option (List ℕ)) → g .orders y ≡ o → o ≡ none
       step none e = refl
       step (some order) e =
-          let n : saidOrder (orderOutcome g y c .answer) .number ≡ 0 = ap (λ o. saidOrder (o .answer) .number) (order-some g y c wide order e) in
+          let n : saidOrder (orderOutcome g y c .answer) .number ≡
+          0 = ap (λ o. saidOrder (o .answer) .number) (order-some g y c wide order e) in
           let z : ⊥ = omega arith in
           absurd z
 
@@ -143,7 +146,8 @@ module _ (g : Planning) (s : Sound g) where
     );
   }
     where
-      step : (y : ℤ) (c one : List ℕ) → length (g .left) ≤ length c → ReaderOrder g one → lateBy g one ≤ℤ y → (x : Option (List ℕ)) → g .orders y ≡ x →
+      step : (y : ℤ) (c one : List ℕ) → length (g .left) ≤ length c → ReaderOrder g one → lateBy g one ≤ℤ y → (x : Option (List ℕ)) →
+          g .orders y ≡ x →
           (order : List ℕ) × (x ≡ some order) × ReaderOrder g order × (lateBy g order ≤ℤ y) ×
           ((other : List ℕ) → ReaderOrder g other → lateBy g other ≤ℤ y → endBy g order ≤ endBy g other) ×
           (orderOutcome g y c ≡ gives (order-answer.Pair (endBy g order) (lateBy g order)) (written order c))
@@ -171,9 +175,11 @@ module _ (g : Planning) (s : Sound g) where
     verdict-zero posting = (λ h. passes posting .0 (step h (postingTests (length (g .left)) posting) refl), λ o. passed (passes posting .1 o))
       where
         passed : postingTests (length (g .left)) posting ≡ tested.Passed → saidVerdict (verdictOutcome g posting) .number ≡ 0
-        passed e = ap (λ v. saidVerdict v .number) (verdict-front posting e) ∙ said-zero (pair posting) (firstBeating 1 defined (pair posting))
+        passed e = ap (λ v. saidVerdict v .number) (verdict-front posting e) ∙
+            said-zero (pair posting) (firstBeating 1 defined (pair posting))
 
-        step : saidVerdict (verdictOutcome g posting) .number ≡ 0 → (t : Tested) → postingTests (length (g .left)) posting ≡ t → t ≡ tested.Passed
+        step : saidVerdict (verdictOutcome g posting) .number ≡ 0 → (t : Tested) → postingTests (length (g .left)) posting ≡ t →
+            t ≡ tested.Passed
         step h tested.Passed e = refl
         step h (tested.Refused m p) e =
             let k : saidVerdict (verdictOutcome g posting) .number ≡ m = ap (λ v. saidVerdict v .number) (verdict-no g posting m p e) in
@@ -181,7 +187,8 @@ module _ (g : Planning) (s : Sound g) where
             absurd z
 
     -- A posting that no listed plan beats is beaten by no order, since the list covers every order.
-    none-beats : (posting other : List ℕ) → firstBeating 1 defined (pair posting) ≡ none → ReaderOrder g other → T (not (beats (pair other) (pair posting)))
+    none-beats : (posting other : List ℕ) → firstBeating 1 defined (pair posting) ≡ none → ReaderOrder g other →
+        T (not (beats (pair other) (pair posting)))
     none-beats posting other e o = not-T (beats (pair other) (pair posting)) (λ t.
         let p : Pair = pair posting in
         let q : Pair = pair other in

@@ -23,7 +23,8 @@ use Rattle.calls.specs.declared.OrderAnswer.the-variants as order-answer
 use Rattle.calls.specs.declared.VerdictAnswer.the-variants as verdict-answer
 use Rattle.calls.specs.Calls.{gives, nth, Planning, judgedOf, listOutcome, orderOutcome, planOutcome, verdictOutcome}
 use Rattle.calls.specs.CallsPromise.{LentMemory}
-use Rattle.calls.proofs.CallLaws.{list-narrow, list-is, plan-is, plan-unlisted, verdict-no, verdict-is, order-narrow, order-some, order-none}
+use Rattle.calls.proofs.CallLaws.{list-narrow, list-is, plan-is, plan-unlisted, verdict-no, verdict-is, order-narrow, order-some}
+use Rattle.calls.proofs.CallLaws.{order-none}
 use Rattle.calls.proofs.Kept.{Sound}
 
 -- `InTable` are the numbers of the table that the calls tell; 9 to 12 are among them.
@@ -47,7 +48,8 @@ module _ (InTable : ℕ → Type 0) where
   unfolding written
   length-written ws b h = simp (length-append, length-drop) (omega arith)
 
-  list-yes : (k : ℕ) (ws b : List ℕ) → length ws ≤ length b → LentMemory InTable list-answer.Refused (gives (list-answer.Plans k) (written ws b)) b
+  list-yes : (k : ℕ) (ws b : List ℕ) → length ws ≤ length b →
+      LentMemory InTable list-answer.Refused (gives (list-answer.Plans k) (written ws b)) b
   list-yes k ws b h = record {
     numbered = λ m q e. never (cc);
     refused-keeps = λ m q e. never (cc);
@@ -77,7 +79,8 @@ module _ (InTable : ℕ → Type 0) where
     pub order-memory : (y : ℤ) (b : List ℕ) → LentMemory InTable order-answer.Refused (orderOutcome g y b) b
     order-memory y b = step (decLe (length (g .left)) (length b))
       where
-        search : length (g .left) ≤ length b → (o : Option (List ℕ)) → g .orders y ≡ o → LentMemory InTable order-answer.Refused (orderOutcome g y b) b
+        search : length (g .left) ≤ length b → (o : Option (List ℕ)) → g .orders y ≡ o →
+            LentMemory InTable order-answer.Refused (orderOutcome g y b) b
         search h none e = rw (order-none g y b h e) (order-no 12 0 b (told 12 (omega arith) (omega arith)))
         search h (some order) e =
             let k = perm-count (s .promise .best y order e .0) .0 in

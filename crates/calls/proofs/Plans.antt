@@ -24,7 +24,8 @@ signed-back (pos n) h k = ap (λ (c : Bool). cond c (pos n) (negsuc (4294967295 
 signed-back (negsuc n) h k =
     ap (λ (c : Bool). cond c (pos (4294967295 - n)) (negsuc (4294967295 - (4294967295 - n)))) (le-ltb (4294967295 - n) 2147483648 (omega arith)) ∙ ap negsuc (omega arith)
 
-pub plans-back : (ps : List Pair) (rest : List ℕ) → ((p : Pair) → List·Memᴰ p ps → signed (complement (p .late)) ≡ p .late) → plansIn (length ps) (planWords ps ++ rest) ≡ ps
+pub plans-back : (ps : List Pair) (rest : List ℕ) → ((p : Pair) → List·Memᴰ p ps → signed (complement (p .late)) ≡ p .late) →
+    plansIn (length ps) (planWords ps ++ rest) ≡ ps
 unfolding plansIn planWords
 plans-back [] rest h = refl
 plans-back (p ∷ ps) rest h = λ i. record { end = p .end; late = h p (List·Memᴰ·head refl) i } ∷ plans-back ps rest (λ q m. h q (List·Memᴰ·tail m)) i
@@ -39,7 +40,8 @@ first-none k (r ∷ rs) q e p m = step (beats r q) refl e (first-none (suc k) rs
     Is none = ⊥
     Is (some n) = Unit {0}
 
-    step : (b : Bool) → beats r q ≡ b → cond b (some k) (firstBeating (suc k) rs q) ≡ none → (firstBeating (suc k) rs q ≡ none → (p : Pair) → List·Memᴰ p rs → T (not (beats p q))) →
+    step : (b : Bool) → beats r q ≡ b → cond b (some k) (firstBeating (suc k) rs q) ≡ none →
+        (firstBeating (suc k) rs q ≡ none → (p : Pair) → List·Memᴰ p rs → T (not (beats p q))) →
         (p ≡ r) ⊎ List·Memᴰ p rs → T (not (beats p q))
     step true c e f g = absurd (subst Is e tt)
     step false c e f (inl g) = subst (λ (x : Pair). T (not (beats x q))) (sym g) (subst (λ (x : Bool). T (not x)) (sym c) tt)

@@ -21,7 +21,8 @@ use Rattle.readers.specs.Reads.{readBy, Gives}
 use Rattle.readers.specs.Accepted.{AcceptedDay}
 use Rattle.readers.proofs.Accepted.{accepted-day}
 use Rattle.readers.proofs.Readings.{given-passed}
-use Rattle.calls.specs.Calls.{Planning, planningIn, listOutcome, orderOutcome, planOutcome, verdictOutcome, listCall, boundCall, planCall, verdictCall}
+use Rattle.calls.specs.Calls.{Planning, planningIn, listOutcome, orderOutcome, planOutcome, verdictOutcome, listCall, boundCall}
+use Rattle.calls.specs.Calls.{planCall, verdictCall}
 use Rattle.calls.specs.Plannable.{Plannable}
 use Rattle.calls.proofs.CallLaws.{list-of, bound-of, plan-of, verdict-of}
 use Rattle.calls.proofs.Columns.{same-listed, same-ordered, same-planned, same-judged}
@@ -51,7 +52,8 @@ module _ (terms : Terms) (book : List ℕ) (r : Given) (day : Day) (reads : read
   plannable : Plannable (terms .profile) job (r .free) (r .count)
   plannable =
       let within = columns .within latestMinute longestLength latestDue (λ i h k. a .limits i) in
-      let rule : Obeys (terms .profile) (jobs day) (countFrom 1 (r .count)) = subst (λ (n : ℕ). Obeys (terms .profile) (jobs day) (countFrom 1 n)) (sym count) (a .rule) in
+      let rule : Obeys (terms .profile) (jobs day) (countFrom 1 (r .count)) =
+      subst (λ (n : ℕ). Obeys (terms .profile) (jobs day) (countFrom 1 n)) (sym count) (a .rule) in
       record {
         limits = record { releases = λ i. within i .0; lengths = λ i. omega (arith, within i .1); dues = λ i. within i .2 };
         low = omega (arith, a .some-row);
@@ -64,7 +66,8 @@ module _ (terms : Terms) (book : List ℕ) (r : Given) (day : Day) (reads : read
   ready-of = record {
     plannable = plannable;
     list = λ b.
-        same-listed plannable same b ∙ (λ x. listOutcome (planningIn (terms .profile) (jobs day) (free x) (count x)) b) ∙ sym (list-of terms book day reads b);
+        same-listed plannable same b ∙ (λ x. listOutcome (planningIn (terms .profile) (jobs day) (free x) (count x)) b) ∙
+        sym (list-of terms book day reads b);
     bound = λ y b.
         same-ordered plannable same y b ∙ (λ x. orderOutcome (planningIn (terms .profile) (jobs day) (free x) (count x)) y b) ∙
         sym (bound-of terms book day reads y b);

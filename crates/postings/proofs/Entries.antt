@@ -59,7 +59,8 @@ module _ (n : ℕ) (posting s : List ℕ) (k : ℕ) (h : k < length posting) whe
   unfolding entryTests
   entry-step = rw (add-one k) (ap (entryTests n s k) (drop-cons posting k 0 h) ∙ rw (add-one k) refl)
 
-  pub entry-stray : (eqb (getD posting k 0) 0 || ltb n (getD posting k 0) || stands (getD posting k 0) s) ≡ true → entryTests n s k (drop k posting) ≡ Refused byNotPosting k
+  pub entry-stray : (eqb (getD posting k 0) 0 || ltb n (getD posting k 0) || stands (getD posting k 0) s) ≡ true →
+      entryTests n s k (drop k posting) ≡ Refused byNotPosting k
   unfolding refuseIf _then_
   entry-stray e = entry-step ∙ rw e refl
 

@@ -4,7 +4,8 @@ use Prim.Native.Nat.{ℕ, zero, suc, _+_, _≤_, _<_, min}
 use native.Mathlib.Omega.{arith}
 use mathlib.Core.Bool.{Bool, true, false, not, cond, _||_}
 use mathlib.Core.Path.{_≡_, refl, sym, ap, _∙_, subst}
-use mathlib.Core.List.{List, [], _∷_, List·Memᴰ, List·Memᴰ·head, List·Memᴰ·tail, List·Memᴰ·not-nil, List·Memᴰ·cases-cons, head-eq-of-cons-eq, tail-eq-of-cons-eq}
+use mathlib.Core.List.{List, [], _∷_, List·Memᴰ, List·Memᴰ·head, List·Memᴰ·tail, List·Memᴰ·not-nil, List·Memᴰ·cases-cons}
+use mathlib.Core.List.{head-eq-of-cons-eq, tail-eq-of-cons-eq}
 use mathlib.Core.Logic.{_⊎_, inl, inr}
 use lib.Dec.{T, ltb, eqb, eqb→eq, eqb-refl, ltb→lt, nltb→le, T-not, not-T}
 use lib.ListN.{length}
@@ -31,7 +32,8 @@ unfolding without
 mem-other i [] h m = m
 mem-other {k} i (j ∷ js) h m = step (eqb i j) (eqb→eq i j) (List·Memᴰ·cases-cons m) (mem-other i js h)
   where
-    step : (b : Bool) → (T b → i ≡ j) → (k ≡ j) ⊎ List·Memᴰ k js → (List·Memᴰ k js → List·Memᴰ k (without i js)) → List·Memᴰ k (cond b js (j ∷ without i js))
+    step : (b : Bool) → (T b → i ≡ j) → (k ≡ j) ⊎ List·Memᴰ k js → (List·Memᴰ k js → List·Memᴰ k (without i js)) →
+        List·Memᴰ k (cond b js (j ∷ without i js))
     step true e (inl g) f = absurd (h (g ∙ sym (e tt)))
     step true e (inr n) f = n
     step false e (inl g) f = List·Memᴰ·head g
@@ -72,7 +74,8 @@ left-next n seen left i h m = record {
     gone : List·Memᴰ i (without i left) → ⊥
     gone g = omega (arith, count-without i left m i, one-self i, mem-count (without i left) g, h .once i)
 
-entries-order : (n : ℕ) (seen : List ℕ) (place : ℕ) (is left : List ℕ) → Left n seen left → length is ≡ length left → entryTests n seen place is ≡ Passed →
+entries-order : (n : ℕ) (seen : List ℕ) (place : ℕ) (is left : List ℕ) → Left n seen left → length is ≡ length left →
+    entryTests n seen place is ≡ Passed →
     List·Memᴰ is (ordersOf (length is) left)
 unfolding entryTests
 entries-order n seen place [] left h l p = unfold ordersOf in List·Memᴰ·head refl
@@ -89,7 +92,8 @@ entries-order n seen place (i ∷ is) left h l p =
     positive zero g = absurd (g refl)
     positive (suc i) g = omega arith
 
-order-entries : (n : ℕ) (seen : List ℕ) (place k : ℕ) (is left : List ℕ) → Left n seen left → List·Memᴰ is (ordersOf k left) → entryTests n seen place is ≡ Passed
+order-entries : (n : ℕ) (seen : List ℕ) (place k : ℕ) (is left : List ℕ) → Left n seen left → List·Memᴰ is (ordersOf k left) →
+    entryTests n seen place is ≡ Passed
 unfolding entryTests ordersOf
 order-entries n seen place k [] left h m = refl
 order-entries n seen place zero (i ∷ is) left h m = absurd (nothing (List·Memᴰ·cases-cons m))
@@ -114,7 +118,8 @@ order-entries n seen place (suc k) (i ∷ is) left h m =
 left-all : (n : ℕ) → Left n [] (countFrom 1 n)
 left-all n = record { all = λ k p q t. from-mem k 1 n p (omega arith); row = λ k m. let r = count-range 1 n m in (r .0, omega (arith, r .1), rw (stands-none k) tt); once = λ k. count-once k 1 n }
 
-pub posting-order : (n : ℕ) (posting : List ℕ) → length (countFrom 1 n) ≡ n → postingTests n posting ≡ Passed → List·Memᴰ posting (ordersOf n (countFrom 1 n))
+pub posting-order : (n : ℕ) (posting : List ℕ) → length (countFrom 1 n) ≡ n → postingTests n posting ≡ Passed →
+    List·Memᴰ posting (ordersOf n (countFrom 1 n))
 unfolding postingTests
 posting-order n posting l e =
     let size = refuseIf (not (eqb (length posting) n)) byNotPosting (min (length posting) n) in
@@ -126,7 +131,8 @@ posting-order n posting l e =
     same true f e = f tt
     same false f e = absurd (subst T e tt)
 
-pub order-posting : (n : ℕ) (posting : List ℕ) → length posting ≡ n → List·Memᴰ posting (ordersOf n (countFrom 1 n)) → postingTests n posting ≡ Passed
+pub order-posting : (n : ℕ) (posting : List ℕ) → length posting ≡ n → List·Memᴰ posting (ordersOf n (countFrom 1 n)) →
+    postingTests n posting ≡ Passed
 order-posting n posting l m =
     unfold postingTests in then-passes (not (eqb (length posting) n)) byNotPosting (min (length posting) n) (entryTests n [] 0 posting)
     (twice (eqb (length posting) n) (subst (λ (k : ℕ). T (eqb (length posting) k)) l (eqb-refl (length posting))))

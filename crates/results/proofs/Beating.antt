@@ -46,7 +46,8 @@ module _ (ends lates : List ℕ) (count : ℕ) (h : count ≤ length ends) (g : 
   all = pairsOf (take count ends) (take count lates)
 
   first-step : (i : ℕ) → i < count →
-      firstBeating (i + 1) (drop i all) q ≡ cond (beats (pairAt (getD ends i 0) (getD lates i 0)) q) (some (i + 1)) (firstBeating (i + 1 + 1) (drop (i + 1) all) q)
+      firstBeating (i + 1) (drop i all) q ≡
+      cond (beats (pairAt (getD ends i 0) (getD lates i 0)) q) (some (i + 1)) (firstBeating (i + 1 + 1) (drop (i + 1) all) q)
   unfolding firstBeating
   first-step i k =
       rw (add-one (i + 1), add-one i) (ap (λ (ps : List Pair). firstBeating (suc i) ps q) (drop-cons all i noPair (omega (arith, first-length ends lates count h g))) ∙
@@ -60,7 +61,8 @@ module _ (ends lates : List ℕ) (count : ℕ) (h : count ≤ length ends) (g : 
       firstBeating 1 all q ≡ firstBeating (i + 1) (drop i all) q → firstBeating 1 all q ≡ firstBeating (i + 1 + 1) (drop (i + 1) all) q
   first-on i k b e = e ∙ (first-step i k ∙ rw b refl)
 
-  pub first-no : (i : ℕ) → i ≡ count → firstBeating 1 all q ≡ firstBeating (i + 1) (drop i all) q → _≡_ {A = ℕ} 0 (orZero (firstBeating 1 all q))
+  pub first-no : (i : ℕ) → i ≡ count → firstBeating 1 all q ≡ firstBeating (i + 1) (drop i all) q →
+      _≡_ {A = ℕ} 0 (orZero (firstBeating 1 all q))
   unfolding firstBeating
   first-no i k e =
       let d : drop i all ≡ [] = ap (λ (n : ℕ). drop n all) (k ∙ sym (first-length ends lates count h g)) ∙ drop-length all in

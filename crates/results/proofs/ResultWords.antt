@@ -47,10 +47,12 @@ wordsTo ends lates k = planWords (pairsOf (take k ends) (take k lates))
 
 module _ (ends lates : List ℕ) (k : ℕ) (h : k < length ends) (g : k < length lates) where
   words-length : length (wordsTo ends lates k) ≡ 2 * k
-  words-length = plan-length (pairsOf (take k ends) (take k lates)) ∙ ap (λ (n : ℕ). 2 * n) (first-length ends lates k (omega arith) (omega arith))
+  words-length = plan-length (pairsOf (take k ends) (take k lates)) ∙
+      ap (λ (n : ℕ). 2 * n) (first-length ends lates k (omega arith) (omega arith))
 
   words-suc : wordsTo ends lates (suc k) ≡ wordsTo ends lates k ++ (getD ends k 0 ∷ complement (lowered (getD lates k 0)) ∷ [])
-  words-suc = ap planWords (first-more ends lates k h g) ∙ plan-more (pairsOf (take k ends) (take k lates)) (pairAt (getD ends k 0) (getD lates k 0))
+  words-suc = ap planWords (first-more ends lates k h g) ∙
+      plan-more (pairsOf (take k ends) (take k lates)) (pairAt (getD ends k 0) (getD lates k 0))
 
   pub words-more : (b : List ℕ) → 2 * k + 1 < length b → (w : ℕ) → w ≡ complement (lowered (getD lates k 0)) →
       set (set (written (wordsTo ends lates k) b) (2 * k) (getD ends k 0)) (2 * k + 1) w ≡ written (wordsTo ends lates (k + 1)) b
