@@ -45,18 +45,18 @@ some-none test (x ∷ xs) none e (suc i) l = some-none test xs none (neither (te
 
 module _ {clash : Row → Row → Bool} (ways : Mutual clash) (number : ℕ) (rs : List Row) where
   -- By places, counted from 0: no two of the first n rows clash.
-  abbrev Apart : ℕ → Type 0
-  Apart n = (a b : ℕ) → a < b → b < n → clash (getD rs b noRow) (getD rs a noRow) ≡ false
+  abbrev NoClashBefore : ℕ → Type 0
+  NoClashBefore n = (a b : ℕ) → a < b → b < n → clash (getD rs b noRow) (getD rs a noRow) ≡ false
 
   -- How the test comes out.
   data Tried : Tested → Type 0 where
-    passed : Apart (length rs) → Tried Passed
-    stopped : (a b : ℕ) → a < b → b < length rs → clash (getD rs b noRow) (getD rs a noRow) ≡ true → Apart b →
+    passed : NoClashBefore (length rs) → Tried Passed
+    stopped : (a b : ℕ) → a < b → b < length rs → clash (getD rs b noRow) (getD rs a noRow) ≡ true → NoClashBefore b →
         Tried (Refused number (4 * b + 2))
 
   -- One row more that clashes with none above it.
-  apart-on : (i : ℕ) → i < length rs → Apart i → someEntry (clash (getD rs i noRow)) (take i rs) ≡ false → Apart (suc i)
-  apart-on i l h e a b p q = go (decLe i b)
+  no-clash-on : (i : ℕ) → i < length rs → NoClashBefore i → someEntry (clash (getD rs i noRow)) (take i rs) ≡ false → NoClashBefore (suc i)
+  no-clash-on i l h e a b p q = go (decLe i b)
     where
       go : Dec (i ≤ b) → clash (getD rs b noRow) (getD rs a noRow) ≡ false
       go (no g) = h a b p (omega arith)
@@ -66,29 +66,29 @@ module _ {clash : Row → Row → Bool} (ways : Mutual clash) (number : ℕ) (rs
           some-none (clash (getD rs i noRow)) (take i rs) noRow e a (omega (arith, length-take i rs)) in
           rw (← same, ← getD-take i rs a noRow (omega arith)) n
 
-  tried : (n i : ℕ) → i + n ≡ length rs → Apart i → Tried (pairsAt clash number rs i)
+  tried : (n i : ℕ) → i + n ≡ length rs → NoClashBefore i → Tried (pairsAt clash number rs i)
   tried zero i s h =
       let e : i ≡ length rs = omega arith in
-      subst Tried (sym (pairs-end clash number rs i (omega arith))) (passed (subst Apart e h))
+      subst Tried (sym (pairs-end clash number rs i (omega arith))) (passed (subst NoClashBefore e h))
   tried (suc n) i s h = go (someEntry (clash (getD rs i noRow)) (take i rs)) refl (tried n (suc i) (omega arith))
     where
       l : i < length rs
       l = omega arith
 
-      go : (b : Bool) → someEntry (clash (getD rs i noRow)) (take i rs) ≡ b → (Apart (suc i) → Tried (pairsAt clash number rs (suc i))) →
+      go : (b : Bool) → someEntry (clash (getD rs i noRow)) (take i rs) ≡ b → (NoClashBefore (suc i) → Tried (pairsAt clash number rs (suc i))) →
           Tried (pairsAt clash number rs i)
       go true e later =
           let f = some-found (clash (getD rs i noRow)) (take i rs) noRow e in
           let below : f .at < i = omega (arith, f .below, length-take i rs) in
           subst Tried (sym (pairs-here clash number rs i l e))
           (stopped (f .at) i below l (rw (← getD-take i rs (f .at) noRow below) (f .passes)) h)
-      go false e later = subst Tried (sym (pairs-on clash number rs i l e)) (later (apart-on i l h e))
+      go false e later = subst Tried (sym (pairs-on clash number rs i l e)) (later (no-clash-on i l h e))
 
   all-tried : Tried (pairTests clash number rs)
   all-tried = tried (length rs) 0 (omega arith) (λ a b p q. let x : ⊥ = omega arith in absurd x)
 
   -- By the rows' numbers.
-  none-clash : Apart (length rs) → NoneClash clash rs
+  none-clash : NoClashBefore (length rs) → NoneClash clash rs
   none-clash h zero j m n = let x : ⊥ = omega (arith, count-range 1 (length rs) m .0) in absurd x
   none-clash h (suc i) zero m n = let x : ⊥ = omega (arith, count-range 1 (length rs) n .0) in absurd x
   none-clash h (suc i) (suc j) m n = go (decLe i j) (decLe j i)
@@ -104,7 +104,7 @@ module _ {clash : Row → Row → Bool} (ways : Mutual clash) (number : ℕ) (rs
       go (yes p) (no q) = ways .swap (getD rs i noRow) (getD rs j noRow) ∙ h i j (omega arith) l
       go (yes p) (yes q) = let same : i ≡ j = omega arith in rw same (ways .self (getD rs j noRow))
 
-  earliest : (a b : ℕ) → a < b → b < length rs → clash (getD rs b noRow) (getD rs a noRow) ≡ true → Apart b →
+  earliest : (a b : ℕ) → a < b → b < length rs → clash (getD rs b noRow) (getD rs a noRow) ≡ true → NoClashBefore b →
       Earliest clash rs (suc a) (suc b)
   earliest a b p q e h = record { above = (omega arith, omega arith, omega arith); clashes = e; none-before = before }
     where

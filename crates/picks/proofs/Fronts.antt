@@ -9,7 +9,7 @@ use mathlib.Core.Logic.{_⊎_, inl, inr}
 use Rattle.theory.specs.Jobs.{Job}
 use Rattle.schedule.specs.Rows.{without}
 use Rattle.schedule.specs.Picks.{firstPick, others, secondPick}
-use Rattle.schedule.proofs.Tests.{apart, Compared, compared}
+use Rattle.schedule.proofs.Tests.{false-is-true, Compared, compared}
 use Rattle.schedule.proofs.PickLaws.{Ahead, ahead-refl}
 use Rattle.picks.specs.Bits.{mark, Words, Least}
 use Rattle.picks.specs.Standing.{Tables, Stands, Late}
@@ -53,7 +53,7 @@ module _ {n : ℕ} {job : ℕ → Job} {by : ℕ → ℕ} (r : Tables n job by) 
               cases Ordering·lt h =
                   ranked (omega (arith, s .on i on .1)) (r .in-rank i j (s .rows i (s .on i on .0) .0) h (s .rows j m .1))
               cases Ordering·eq h = subst (Ahead job t i) h (ahead-refl job t i)
-              cases Ordering·gt h = apart (sym (least .some some .1 j h) ∙ e)
+              cases Ordering·gt h = false-is-true (sym (least .some some .1 j h) ∙ e)
           go j m false e =
               let k = s .off j m e in
               let g : job (by (k .0)) .release ≡ job j .release = ap (λ (x : ℕ). job x .release) (k .3) in

@@ -40,10 +40,10 @@ gone-without i (k ∷ ks) a m = go (eqb i k) refl m (gone-without i ks (a .1))
 pub other-without : {j : ℕ} (i : ℕ) (is : List ℕ) → Distinct is → List·Memᴰ j (without i is) → j ≡ i → ⊥
 other-without i is a m x = gone-without i is a (subst (λ (y : ℕ). List·Memᴰ y (without i is)) x m)
 
-pub apart-without : (i : ℕ) (is : List ℕ) → Distinct is → Distinct (without i is)
+pub distinct-without : (i : ℕ) (is : List ℕ) → Distinct is → Distinct (without i is)
 unfolding without
-apart-without i [] a = tt
-apart-without i (k ∷ ks) a = go (eqb i k) (apart-without i ks (a .1))
+distinct-without i [] a = tt
+distinct-without i (k ∷ ks) a = go (eqb i k) (distinct-without i ks (a .1))
   where
     go : (c : Bool) → Distinct (without i ks) → Distinct (cond c ks (k ∷ without i ks))
     go true f = a .1

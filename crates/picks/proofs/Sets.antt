@@ -12,7 +12,7 @@ use lib.Pow.{pow-lt}
 use lib.ListN.{getD, set, length-set}
 use lib.Seq.{getD-set-same, getD-set-other}
 use borrow.Author.Tests.{eqb-true, eqb-false, ltb-true, ltb-false}
-use Rattle.schedule.proofs.Tests.{apart}
+use Rattle.schedule.proofs.Tests.{false-is-true}
 use Rattle.picks.specs.Bits.{bit, word, mark, Words, Least}
 use Rattle.picks.proofs.Bits.{word-small, word-same, mark-other, mark-out, word-split, word-none, word-zero, Zeros, zeros}
 
@@ -117,7 +117,7 @@ module _ {p : ℕ → Bool} (q : ℕ) (before : Clear p q) where
           let t : p (q * 64 + z) ≡ true = ap p e ∙ found .there small in
           record {
             below = omega (arith, small);
-            none = λ y. apart (sym f ∙ (ap p (sym y) ∙ t));
+            none = λ y. false-is-true (sym f ∙ (ap p (sym y) ∙ t));
             some = λ n. (t, λ j g. go j g (ltb j (64 * q)) refl);
           }
         where

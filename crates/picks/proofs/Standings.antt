@@ -10,11 +10,11 @@ use mathlib.Core.Logic.{_⊎_, inl, inr}
 use Rattle.theory.specs.Jobs.{Job}
 use Rattle.schedule.specs.Rows.{without}
 use Rattle.schedule.proofs.Orders.{mem-without}
-use Rattle.schedule.proofs.Tests.{apart}
+use Rattle.schedule.proofs.Tests.{false-is-true}
 use Rattle.picks.specs.Bits.{mark, Words}
 use Rattle.picks.specs.Standing.{Tables, Stands, Late}
 use Rattle.picks.proofs.Bits.{mark-same, mark-other}
-use Rattle.picks.proofs.Rests.{kept-without, other-without, apart-without}
+use Rattle.picks.proofs.Rests.{kept-without, other-without, distinct-without}
 
 module _ {n : ℕ} {job : ℕ → Job} {by : ℕ → ℕ} (r : Tables n job by) {t : ℕ} {rest : List ℕ} {next : ℕ} {ws : List ℕ} (s : Stands n job by t rest next ws) where
   -- The set is without 0.
@@ -26,8 +26,8 @@ module _ {n : ℕ} {job : ℕ → Job} {by : ℕ → ℕ} (r : Tables n job by) 
       go false e = refl
 
   -- Two places, two rows.
-  pub rows-apart : (k l : ℕ) → k < l → l < n → by k ≡ by l → ⊥
-  rows-apart k l h g e = go (r .by-release .sorted k l h g)
+  pub rows-differ : (k l : ℕ) → k < l → l < n → by k ≡ by l → ⊥
+  rows-differ k l h g e = go (r .by-release .sorted k l h g)
     where
       go : (job (by k) .release < job (by l) .release) ⊎ ((job (by k) .release ≡ job (by l) .release) × (by k < by l)) → ⊥
       go (inl x) = let y = ap (λ (i : ℕ). job i .release) e in omega arith
@@ -38,19 +38,19 @@ module _ {n : ℕ} {job : ℕ → Job} {by : ℕ → ℕ} (r : Tables n job by) 
   stands-away {i} e w = record {
     set = mark i false (s .set);
     words = w;
-    apart = apart-without i rest (s .apart);
+    distinct = distinct-without i rest (s .distinct);
     rows = λ j m. s .rows j (mem-without i rest m);
     on = λ j f. on j f (ℕ-discrete j i);
-    off = λ j m f. s .off j (mem-without i rest m) (sym (mark-other i false (s .set) j (other-without i rest (s .apart) m)) ∙ f);
+    off = λ j m f. s .off j (mem-without i rest m) (sym (mark-other i false (s .set) j (other-without i rest (s .distinct) m)) ∙ f);
     ahead = λ k h g. let a = s .ahead k h g in (kept-without (by k) i rest (a .0) (unlike k (a .1)), mark-other i false (s .set) (by k) (unlike k (a .1)) ∙ a .1);
     place = s .place;
   }
     where
       unlike : (k : ℕ) → s .set (by k) ≡ false → by k ≡ i → ⊥
-      unlike k f x = apart (sym f ∙ (ap (s .set) x ∙ e))
+      unlike k f x = false-is-true (sym f ∙ (ap (s .set) x ∙ e))
 
       on : (j : ℕ) → mark i false (s .set) j ≡ true → Dec (j ≡ i) → List·Memᴰ j (without i rest) × (job j .release ≤ t)
-      on j f (yes d) = apart (sym (ap (mark i false (s .set)) d ∙ mark-same i false (s .set)) ∙ f)
+      on j f (yes d) = false-is-true (sym (ap (mark i false (s .set)) d ∙ mark-same i false (s .set)) ∙ f)
       on j f (no v) =
           let a = s .on j (sym (mark-other i false (s .set) j v) ∙ f) in
           (kept-without j i rest (a .0) v, a .1)
@@ -65,17 +65,17 @@ module _ {n : ℕ} {job : ℕ → Job} {by : ℕ → ℕ} (r : Tables n job by) 
     stands-next = record {
       set = s .set;
       words = s .words;
-      apart = apart-without (by next) rest (s .apart);
+      distinct = distinct-without (by next) rest (s .distinct);
       rows = λ j m. s .rows j (mem-without (by next) rest m);
-      on = λ j f. let a = s .on j f in (kept-without j (by next) rest (a .0) (λ x. apart (sym next-off ∙ (ap (s .set) (sym x) ∙ f))), a .1);
+      on = λ j f. let a = s .on j f in (kept-without j (by next) rest (a .0) (λ x. false-is-true (sym next-off ∙ (ap (s .set) (sym x) ∙ f))), a .1);
       off = λ j m f. off j m (s .off j (mem-without (by next) rest m) f);
-      ahead = λ k g l. let a = s .ahead k (omega arith) l in (kept-without (by k) (by next) rest (a .0) (λ x. rows-apart next k (omega arith) l (sym x)), a .1);
+      ahead = λ k g l. let a = s .ahead k (omega arith) l in (kept-without (by k) (by next) rest (a .0) (λ x. rows-differ next k (omega arith) l (sym x)), a .1);
       place = omega arith;
     }
       where
         off : (j : ℕ) → List·Memᴰ j (without (by next) rest) → (k : ℕ) × (next ≤ k) × (k < n) × (by k ≡ j) → (k : ℕ) × (next + 1 ≤ k) × (k < n) × (by k ≡ j)
         off j m (k, g, l, e) =
-            let v : k ≡ next → ⊥ = λ x. other-without (by next) rest (s .apart) m (sym e ∙ ap by x) in
+            let v : k ≡ next → ⊥ = λ x. other-without (by next) rest (s .distinct) m (sym e ∙ ap by x) in
             (k, omega arith, l, e)
 
     -- or is put into the set.
@@ -83,11 +83,11 @@ module _ {n : ℕ} {job : ℕ → Job} {by : ℕ → ℕ} (r : Tables n job by) 
     stands-put g w = record {
       set = mark (by next) true (s .set);
       words = w;
-      apart = s .apart;
+      distinct = s .distinct;
       rows = s .rows;
       on = λ j f. on j f (ℕ-discrete j (by next));
       off = λ j m f. off j m f (ℕ-discrete j (by next));
-      ahead = λ k u v. let a = s .ahead k (omega arith) v in (a .0, mark-other (by next) true (s .set) (by k) (λ x. rows-apart next k (omega arith) v (sym x)) ∙ a .1);
+      ahead = λ k u v. let a = s .ahead k (omega arith) v in (a .0, mark-other (by next) true (s .set) (by k) (λ x. rows-differ next k (omega arith) v (sym x)) ∙ a .1);
       place = omega arith;
     }
       where
@@ -98,7 +98,7 @@ module _ {n : ℕ} {job : ℕ → Job} {by : ℕ → ℕ} (r : Tables n job by) 
         on j f (no v) = s .on j (sym (mark-other (by next) true (s .set) j v) ∙ f)
 
         off : (j : ℕ) → List·Memᴰ j rest → mark (by next) true (s .set) j ≡ false → Dec (j ≡ by next) → (k : ℕ) × (next + 1 ≤ k) × (k < n) × (by k ≡ j)
-        off j m f (yes x) = apart (sym f ∙ (ap (mark (by next) true (s .set)) x ∙ mark-same (by next) true (s .set)))
+        off j m f (yes x) = false-is-true (sym f ∙ (ap (mark (by next) true (s .set)) x ∙ mark-same (by next) true (s .set)))
         off j m f (no v) =
             let a = s .off j m (sym (mark-other (by next) true (s .set) j v) ∙ f) in
             let w : a .0 ≡ next → ⊥ = λ x. v (sym (a .3) ∙ ap by x) in
@@ -121,7 +121,7 @@ module _ {n : ℕ} {job : ℕ → Job} {by : ℕ → ℕ} (r : Tables n job by) 
   stands-later u h = record {
     set = s .set;
     words = s .words;
-    apart = s .apart;
+    distinct = s .distinct;
     rows = s .rows;
     on = λ j f. let a = s .on j f in (a .0, omega (arith, a .1));
     off = s .off;

@@ -12,14 +12,14 @@ use Rattle.schedule.specs.Rows.{countFrom}
 use Rattle.schedule.specs.Offset.{deskAt}
 use Rattle.schedule.specs.declared.Desk.{Desk}
 use Rattle.schedule.proofs.Numbers.{length-count, count-range, from-mem}
-use Rattle.schedule.proofs.Tests.{apart}
+use Rattle.schedule.proofs.Tests.{false-is-true}
 use Rattle.picks.specs.Standing.{Distinct, Tables, Stands, Late, Sits}
 use Rattle.picks.proofs.Bits.{word-zero}
 
-count-apart : (i m : ℕ) → Distinct (countFrom i m)
+count-distinct : (i m : ℕ) → Distinct (countFrom i m)
 unfolding countFrom
-count-apart i zero = tt
-count-apart i (suc m) = (λ h. omega (arith, count-range (suc i) m h .0), count-apart (suc i) m)
+count-distinct i zero = tt
+count-distinct i (suc m) = (λ h. omega (arith, count-range (suc i) m h .0), count-distinct (suc i) m)
 
 zeroes : (k i : ℕ) → getD {A = ℕ} (replicate k 0) i 0 ≡ 0
 zeroes zero i = refl
@@ -30,9 +30,9 @@ pub at-start : {n : ℕ} {job : ℕ → Job} {by : ℕ → ℕ} → Tables n job
 at-start {n} {job} {by} r t = record {
   set = λ j. false;
   words = record { size = length-replicate {A = ℕ} 5 0; each = λ q h. zeroes 5 q ∙ sym (word-zero (λ j. false) (64 * q) 64 (λ j u v. refl)) };
-  apart = count-apart 1 n;
+  distinct = count-distinct 1 n;
   rows = λ i m. let a = count-range 1 n m in (a .0, omega (arith, a .1));
-  on = λ i e. apart e;
+  on = λ i e. false-is-true e;
   off = λ i m e. let a = count-range 1 n m in let p = r .by-release .place i (a .0) (omega (arith, a .1)) in (p .0, omega arith, p .1, p .2);
   ahead = λ k h g. let a = r .by-release .rows k g in (from-mem (by k) 1 n (a .0) (omega (arith, a .1)), refl);
   place = omega arith;

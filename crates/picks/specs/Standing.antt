@@ -29,7 +29,7 @@ module _ (n : ℕ) (job : ℕ → Job) (by : ℕ → ℕ) where
   pub record Stands (t : ℕ) (rest : List ℕ) (next : ℕ) (ready : List ℕ) : Type 0 where
     pub set : ℕ → Bool
     pub words : Words set ready
-    pub apart : Distinct rest
+    pub distinct : Distinct rest
     pub rows : (i : ℕ) → List·Memᴰ i rest → (1 ≤ i) × (i ≤ n)
     pub on : (i : ℕ) → set i ≡ true → List·Memᴰ i rest × (job i .release ≤ t)
     pub off : (i : ℕ) → List·Memᴰ i rest → set i ≡ false → (k : ℕ) × (next ≤ k) × (k < n) × (by k ≡ i)

@@ -7,7 +7,7 @@ use native.Mathlib.Omega.{arith}
 use mathlib.Core.Path.{_≡_, refl, ap}
 use Rattle.schedule.specs.Limits.{longestLength}
 use Rattle.row_reader.specs.RowWords.{lengthOf}
-use Rattle.row_reader.specs.NearestMinute.{apart, NearestMinute}
+use Rattle.row_reader.specs.NearestMinute.{distance, NearestMinute}
 
 -- What is known of a quotient.
 module _ {x k : ℕ} (q : ℕ) (e : q ≡ x / k) (p : 0 < k) where
@@ -46,21 +46,21 @@ module _ (pages pace : ℕ) where
     low = omega (arith, falls-short long refl (omega arith), mul-left-comm long 2 pace)
 
     -- So it is nearer than any greater number, and as near as any smaller one.
-    nearer : (n : ℕ) → long < n → apart pages pace long < apart pages pace n
+    nearer : (n : ℕ) → long < n → distance pages pace long < distance pages pace n
     nearer n h = omega (arith, high, low, next-minute long n pace h)
 
-    as-near : (n : ℕ) → n < long → apart pages pace long ≤ apart pages pace n
+    as-near : (n : ℕ) → n < long → distance pages pace long ≤ distance pages pace n
     as-near n h = omega (arith, high, low, next-minute n long pace h)
 
-    near : (n : ℕ) → apart pages pace long ≤ apart pages pace n
+    near : (n : ℕ) → distance pages pace long ≤ distance pages pace n
     near n = step (decLt n long) (decLt long n)
       where
-        step : Dec (n < long) → Dec (long < n) → apart pages pace long ≤ apart pages pace n
+        step : Dec (n < long) → Dec (long < n) → distance pages pace long ≤ distance pages pace n
         step (yes h) d = as-near n h
         step (no h) (yes g) = le-of-lt (nearer n g)
-        step (no h) (no g) = let e : long ≡ n = omega arith in le-of-eq (ap (apart pages pace) e)
+        step (no h) (no g) = let e : long ≡ n = omega arith in le-of-eq (ap (distance pages pace) e)
 
-    half-goes-up : (n : ℕ) → apart pages pace n ≡ apart pages pace long → n ≤ long
+    half-goes-up : (n : ℕ) → distance pages pace n ≡ distance pages pace long → n ≤ long
     half-goes-up n e = step (decLt long n)
       where
         step : Dec (long < n) → n ≤ long

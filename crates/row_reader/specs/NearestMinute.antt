@@ -7,14 +7,14 @@ use Rattle.row_reader.specs.RowWords.{lengthOf}
 
 -- How far so many minutes are from the reading time, in parts of a minute of which there are `pace`: n minutes have n × pace of them, the
 -- reading time pages × 60. (A difference below 0 is 0: one of the two is.)
-abbrev pub apart : (pages pace n : ℕ) → ℕ
-apart pages pace n = (n * pace - pages * 60) + (pages * 60 - n * pace)
+abbrev pub distance : (pages pace n : ℕ) → ℕ
+distance pages pace n = (n * pace - pages * 60) + (pages * 60 - n * pace)
 
 pub record Nearest (pages pace : ℕ) : Type 0 where
   -- No whole number of minutes is nearer to the reading time than the length ..
-  pub nearest : (n : ℕ) → apart pages pace (lengthOf pages pace) ≤ apart pages pace n
+  pub nearest : (n : ℕ) → distance pages pace (lengthOf pages pace) ≤ distance pages pace n
   -- .. and none that is as near is greater: an exact half goes up.
-  pub half-up : (n : ℕ) → apart pages pace n ≡ apart pages pace (lengthOf pages pace) → n ≤ lengthOf pages pace
+  pub half-up : (n : ℕ) → distance pages pace n ≡ distance pages pace (lengthOf pages pace) → n ≤ lengthOf pages pace
   -- Length lies between 1 and 30,000.
   pub least : 1 ≤ lengthOf pages pace
   pub most : lengthOf pages pace ≤ longestLength

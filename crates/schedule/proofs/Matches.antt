@@ -64,8 +64,8 @@ outranks-other job i =
 
 module _ {n : ℕ} {job : ℕ → Job} {row : ℕ → ℕ} (byRank : ByRank n job row) where
   -- No row has two ranks.
-  apart : (k l : ℕ) → 1 ≤ k → k < l → l ≤ n → ¬ (row k ≡ row l)
-  apart k l h g f e =
+  ranks-differ : (k l : ℕ) → 1 ≤ k → k < l → l ≤ n → ¬ (row k ≡ row l)
+  ranks-differ k l h g f e =
       outranks-other job (row l) (subst (λ (i : ℕ). T (outranks job i (row l))) e (is-true (outranks job (row k) (row l)) (byRank .ranked k l h g f)))
 
   row-once : (i k m : ℕ) → 1 ≤ k → k + m ≤ suc n → count i (map row (countFrom k m)) ≤ 1
@@ -80,7 +80,7 @@ module _ {n : ℕ} {job : ℕ → Job} {row : ℕ → ℕ} (byRank : ByRank n jo
       alone e l =
           let r = Memᴰ·of-map row (countFrom (suc k) m) (count-mem i later l) in
           let c = count-range (suc k) m (r .1) in
-          apart k (r .0) h (c .0) (omega arith) (sym e ∙ sym (r .2))
+          ranks-differ k (r .0) h (c .0) (omega arith) (sym e ∙ sym (r .2))
 
       step : (b : Bool) → (T b → i ≡ row k) → count i later ≤ 1 → one b + count i later ≤ 1
       step true e f = let a : ¬ (0 < count i later) = alone (e tt) in omega arith

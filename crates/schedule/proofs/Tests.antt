@@ -1,4 +1,4 @@
--- Tests taken apart and put together; what a comparison says.
+-- Tests taken false-is-true and put together; what a comparison says.
 -- Assumes nothing.
 use Prim.Native.Nat.{ℕ, zero, suc, _<_, compare, Ordering, Ordering·lt, Ordering·eq, Ordering·gt, compare·zero-zero, compare·zero-suc, compare·suc-zero, compare·suc-suc}
 use native.Mathlib.Omega.{arith}
@@ -8,8 +8,8 @@ use mathlib.Core.Logic.{_⊎_, inl, inr}
 use lib.Dec.{T}
 
 -- False is not true.
-pub apart : {A : Type 0} → _≡_ {A = Bool} false true → A
-apart e = let z : ⊥ = subst T (sym e) tt in absurd z
+pub false-is-true : {A : Type 0} → _≡_ {A = Bool} false true → A
+false-is-true e = let z : ⊥ = subst T (sym e) tt in absurd z
 
 pub both : (a b : Bool) → T a → T b → T (a && b)
 both true b s t = t

@@ -7,7 +7,7 @@ use mathlib.Core.List.{List, _++_}
 use lib.ListN.{take}
 use Rattle.theory.specs.Jobs.{Job}
 use Rattle.schedule.specs.Picks.{firstPick, secondPick, block, blockOne, blockTwo}
-use Rattle.schedule.proofs.Tests.{apart}
+use Rattle.schedule.proofs.Tests.{false-is-true}
 use Rattle.picks.specs.declared.Standing.{Standing}
 use Rattle.search.specs.Taking.{Ran, Stepped}
 
@@ -44,7 +44,7 @@ module _ (n : ℕ) (job : ℕ → Job) (by : ℕ → ℕ) (bound : ℕ) (rest : 
     pub stepped-one : one .desk .worst ≤ bound → Stepped n job by bound rest s order (record { second = false; after = one }) between
     stepped-one h = record {
       one = λ e. (h, one-ran i first order one between q);
-      two = λ e. apart e;
+      two = λ e. false-is-true e;
       counts = (b .0, q .counts .1);
       places = q .places;
     }
@@ -53,7 +53,7 @@ module _ (n : ℕ) (job : ℕ → Job) (by : ℕ → ℕ) (bound : ℕ) (rest : 
         (s .count < two .count) × Ran n job by bound rest s (block job j now rest) between two after →
         Stepped n job by bound rest s order (record { second = true; after = two }) after
     stepped-two h j second two after t = record {
-      one = λ e. apart (sym e);
+      one = λ e. false-is-true (sym e);
       two = λ e. (
         one-ran i first order one between q .over h,
         ran-again (blockTwo job now rest) order between two after (q .before) (two-ran j second between two after (t .1)),

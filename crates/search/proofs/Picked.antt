@@ -12,7 +12,7 @@ use Rattle.theory.specs.Jobs.{Job}
 use Rattle.schedule.specs.Limits.{mostRows}
 use Rattle.schedule.specs.Rows.{without}
 use Rattle.schedule.specs.Picks.{firstPick, others, secondPick, decided}
-use Rattle.schedule.proofs.Tests.{apart, neither}
+use Rattle.schedule.proofs.Tests.{false-is-true, neither}
 use Rattle.schedule.proofs.PickLaws.{least-mem}
 use Rattle.schedule.proofs.Orders.{length-without, mem-without}
 use Rattle.picks.specs.declared.Standing.{Standing}
@@ -104,7 +104,7 @@ module _ (n : ℕ) (job : ℕ → Job) (by : ℕ → ℕ) (tables : Tables n job
     module _ (torn : decided job now rest ≡ false) where
       pub torn-first : i ≡ 0 → ⊥
       unfolding decided
-      torn-first z = apart (sym torn ∙ ap (decided job now) (none-left i first z))
+      torn-first z = false-is-true (sym torn ∙ ap (decided job now) (none-left i first z))
 
       pub torn-second : j ≡ 0 → ⊥
       torn-second z =

@@ -14,7 +14,7 @@ use Rattle.schedule.specs.Rows.{countFrom, withoutAll}
 use Rattle.schedule.specs.Picks.{decided, run, blockOne, blockTwo}
 use Rattle.schedule.specs.Columns.{Limits}
 use Rattle.schedule.specs.Offset.{deskAt}
-use Rattle.schedule.proofs.Tests.{apart}
+use Rattle.schedule.proofs.Tests.{false-is-true}
 use Rattle.picks.specs.declared.Standing.{Standing}
 use Rattle.picks.specs.Standing.{Sits}
 use Rattle.search.specs.declared.Block.{Block}
@@ -27,7 +27,7 @@ use Rattle.search.proofs.Ways.{opening-over, way-first, way-one, way-tw
 pub torn-more : (n : ℕ) (job : ℕ → Job) (by : ℕ → ℕ) (rest : List ℕ) (s : Standing) → Sits n job by rest s →
     decided job (s .desk .minute) rest ≡ false → s .count ≡ n → ⊥
 unfolding decided
-torn-more n job by [] s g e c = apart (sym e)
+torn-more n job by [] s g e c = false-is-true (sym e)
 torn-more n job by (i ∷ is) s g e c = omega (arith, g .count)
 
 -- Where a run ends and rows are left, the desk is not decided.
@@ -100,7 +100,7 @@ module _ (n : ℕ) (job : ℕ → Job) (by : ℕ → ℕ) (limits : Limits job) 
         go false e = (
           subst (λ (x : Bool). Went bound done rest s order (cond x second first) (b .after) after) (sym e)
               (went-one order (b .after) after (q .one e .0) (q .one e .1)),
-          λ x. apart (sym e ∙ x),
+          λ x. false-is-true (sym e ∙ x),
         )
         go true e = (
           subst (λ (x : Bool). Went bound done rest s order (cond x second first) (b .after) after) (sym e)
