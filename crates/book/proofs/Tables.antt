@@ -4,24 +4,18 @@ use Prim.Native.Nat.{ℕ, suc, _+_, _-_, _≤_, _<_}
 use native.Mathlib.Omega.{arith}
 use native.Mathlib.Numerals.{add-one}
 use mathlib.Core.Path.{_≡_, refl, sym, ap, _∙_}
-use mathlib.Core.List.{List, [], _∷_, _++_, append-assoc, map, map-append}
-use lib.ListN.{length, take, drop, set, getD, replicate, length-map, length-take, length-drop, length-append, length-replicate, length-set}
+use mathlib.Core.List.{List, [], _∷_, _++_, append-assoc, map-append}
+use lib.ListN.{length, take, drop, set, getD, replicate, length-take, length-drop, length-append, length-replicate, length-set}
 use lib.Seq.{getD-take, take-suc-set, set-at, take-all, take-append-seam}
 use Rattle.schedule.specs.Limits.{mostRows}
 use Rattle.schedule.specs.declared.Row.{Row}
 use Rattle.schedule.specs.Rows.{noRow, Day}
-use Rattle.schedule.proofs.Row as T
 use Rattle.refusals.specs.declared.Tested.{Tested}
 use Rattle.refusals.specs.declared.Tested.the-variants.{Passed, Refused}
 use Rattle.book.specs.declared.Table.{Table}
 use Rattle.row_reader.specs.RowWords.{numbersOf}
 use Rattle.book.specs.Rows.{accepted, dayOf, refusedOr}
 use Rattle.book.specs.Book.{tableOf, tableRows, readingOf, unlessRefused}
-
--- An array of 256 rows has 256 places. (Owning a table says it of the rows' fields: `c .good .0 .1 .1 .1 .1 .0 .1 .0 .1` of a first
--- parameter.)
-pub all-places : (l : List Row) → length (map (T.the-type .to) l) ≡ mostRows → length l ≡ mostRows
-all-places l e = sym (length-map l (T.the-type .to)) ∙ e
 
 -- The rows of a table.
 pub rows-length : (t : Table) → t .count ≤ mostRows → length (t .rows) ≡ mostRows → length (tableRows t) ≡ t .count

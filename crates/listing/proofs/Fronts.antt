@@ -63,9 +63,6 @@ first-more ends lates k h g =
     pairs-more (take k ends) (take k lates) (getD ends k 0) (getD lates k 0) (even ends lates k (omega arith) (omega arith))
 
 module _ (f : Front) (s : Sized f) where
-  pub held-length : length (held f) ≡ f .count
-  held-length = first-length (f .ends) (f .lates) (f .count) (omega (arith, s .few, s .ends)) (omega (arith, s .few, s .lates))
-
   pub held-at : (i : ℕ) (q : Pair) → i < f .count → getD (held f) i q ≡ pairAt (getD (f .ends) i 0) (getD (f .lates) i 0)
   held-at = first-at (f .ends) (f .lates) (f .count) (omega (arith, s .few, s .ends)) (omega (arith, s .few, s .lates))
 
