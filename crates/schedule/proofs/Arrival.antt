@@ -20,7 +20,7 @@ use Rattle.schedule.specs.Rows.{countFrom}
 use Rattle.schedule.specs.Desk.{Pair, OrderOf, endOf, pairOf}
 use Rattle.schedule.specs.Plans.{beats, attained, plans}
 use Rattle.schedule.specs.Cover.{PlansPromise}
-use Rattle.schedule.specs.Arrival.{Uncrossed, comesBefore, placedByArrival, byArrival, arrivalFor, ArrivalPromised}
+use Rattle.schedule.specs.Arrival.{Uncrossed, comesBefore, placedByArrival, byArrival, InArrival, arrivalFor, ArrivalPromised}
 use Rattle.schedule.specs.Columns.{at}
 use Rattle.schedule.specs.Ranks.{ByArrival}
 use Rattle.schedule.proofs.Tests.{is-true}
@@ -29,7 +29,7 @@ use Rattle.schedule.proofs.Signed.{up, down, leZ→}
 use Rattle.schedule.proofs.DeskLaws.{keeps-late, late-keeps}
 use Rattle.schedule.proofs.Orders.{count, count-mem, mem-count, once-first, perm-count, perm-all}
 use Rattle.schedule.proofs.Numbers.{count-range, count-once, from-mem}
-use Rattle.schedule.proofs.Comes.{Comes, comes-trans, comes-same, before-comes, not-before-comes, comes-before}
+use Rattle.schedule.proofs.Comes.{Comes, comes-first, comes-trans, comes-same, before-comes, not-before-comes, comes-before}
 use Rattle.schedule.proofs.JobsOf.{jobs, jobs-end, on-jobs, jobs-order, keeps-kept, kept-keeps}
 use Rattle.schedule.proofs.Beats.{NoWorse, beats-worse, unbeaten-worse, alike}
 use Rattle.schedule.proofs.Front.{plans-sound, plans-complete, plans-rising, rising-unique}
@@ -73,6 +73,10 @@ module _ (job : ℕ → Job) where
   unfolding byArrival
   arrival-sorted [] = tt
   arrival-sorted (i ∷ is) = placed-sorted i (byArrival job is) (arrival-sorted is)
+
+  in-arrival : (order : List ℕ) → Sorted (Comes job) order → InArrival job order
+  in-arrival [] s = tt
+  in-arrival (i ∷ is) s = (λ j m. comes-first job (s .0 j m), in-arrival is (s .1))
 
   -- As the theory says it.
   jobs-arrive : (order : List ℕ) → Sorted (Comes job) order → JobsByArrival (jobs job order)
@@ -188,6 +192,7 @@ module _ (job : ℕ → Job) (t : ℕ) (left : List ℕ) (uncrossed : Uncrossed 
 pub arrival-promised : ArrivalPromised
 arrival-promised job t left uncrossed some-row = record {
   whole = arrival-perm job left;
+  sorted = in-arrival job (byArrival job left) (arrival-sorted job left);
   least = λ order o. let n = no-worse job t left uncrossed some-row order o in (n .0, signed (n .1));
   one-plan = one-plan job t left uncrossed some-row;
   promise = holds job t left uncrossed some-row;

@@ -2,11 +2,12 @@
 -- Assumes nothing.
 use Prim.Native.Nat.{ℕ, _≤_, _<_}
 use native.Mathlib.Omega.{arith}
+use native.Mathlib.Decide.{decLe}
 use mathlib.Core.Bool.{Bool, true, false, not}
 use mathlib.Core.Path.{_≡_, refl, sym, ap}
 use lib.Dec.{T, ltb→lt, nltb→le}
 use Rattle.theory.specs.Jobs.{Job}
-use Rattle.schedule.specs.Arrival.{comesBefore}
+use Rattle.schedule.specs.Arrival.{comesBefore, ArrivesFirst, by-release, by-due, by-row}
 use Rattle.schedule.proofs.Tests.{is-true, is-false}
 use Rattle.schedule.proofs.PickLaws.{ahead-says}
 
@@ -26,6 +27,14 @@ module _ (job : ℕ → Job) where
 
     row-comes : job i .release ≡ job j .release → job i .due ≡ job j .due → i ≤ j → Comes i j
     row-comes r d l = record { by-release = omega arith; by-due = λ h. omega arith; by-row = λ h g. l }
+
+  pub comes-first : {i j : ℕ} → Comes i j → ArrivesFirst job i j
+  comes-first {i} {j} c = step (decLe (job j .release) (job i .release)) (decLe (job j .due) (job i .due))
+    where
+      step : Dec (job j .release ≤ job i .release) → Dec (job j .due ≤ job i .due) → ArrivesFirst job i j
+      step (no r) d = by-release (omega arith)
+      step (yes r) (no d) = by-due (omega (arith, c .by-release)) (omega arith)
+      step (yes r) (yes d) = by-row (omega (arith, c .by-release)) (omega (arith, c .by-due r)) (c .by-row r d)
 
   pub comes-trans : {i j k : ℕ} → Comes i j → Comes j k → Comes i k
   comes-trans {i} {j} {k} a b = record {

@@ -1,7 +1,6 @@
 -- Property 3 of the definitions holds of any rows in agreement, from any minute on.
 -- Assumes nothing.
 use Prim.Native.Nat.{ℕ, _≤_}
-use mathlib.Core.Bool.{not}
 use mathlib.Core.Path.{refl, subst}
 use mathlib.Core.List.{List, [], _∷_, List·Memᴰ, List·Memᴰ·head, List·Memᴰ·tail}
 use mathlib.Core.Logic.{_↔_}
@@ -11,10 +10,11 @@ use lib.IntN.{ℤ}
 use lib.Signed.{_≤ℤ_}
 use Rattle.theory.specs.Jobs.{Job}
 use Rattle.schedule.specs.Desk.{Pair, OrderOf, Attains, pairOf, endOf, keeps}
-use Rattle.schedule.specs.Plans.{beats, attained, plans}
+use Rattle.schedule.specs.Plans.{Beats, attained, plans}
 use Rattle.schedule.specs.Picks.{orderFor}
 use Rattle.schedule.specs.Cover.{Rising, PlansPromise, Promised, SameList}
 use Rattle.schedule.proofs.Signed.{_≼_, leZ→, →leZ, →ltZ}
+use Rattle.schedule.proofs.Beats.{unbeaten-says}
 use Rattle.schedule.proofs.Orders.{perm-orders, orders-perm}
 use Rattle.schedule.proofs.Front.{above-mem, plans-sound, plans-complete, plans-rising}
 use Rattle.schedule.proofs.Front.{Rising as EndsRise}
@@ -45,14 +45,16 @@ module _ (job : ℕ → Job) (t : ℕ) (left : List ℕ) where
       )
 
   pub listed : (p : Pair) → List·Memᴰ p (plans job t left) ↔
-      (((order : List ℕ) × Attains job t left order p) × ((other : List ℕ) → OrderOf left other → T (not (beats (pairOf job t other) p))))
+      (((order : List ℕ) × Attains job t left order p) × ((other : List ℕ) → OrderOf left other → ¬ Beats (pairOf job t other) p))
   listed p = (
     λ m. let l = plans-sound job t left p m in
         let u = pair-order job t left p (l .found) in
-        ((u .0, (whole left (u .1), u .2)), λ other o. l .none-beats (pairOf job t other) (order-pair job t left other (tried left o))),
+        ((u .0, (whole left (u .1), u .2)), λ other o. unbeaten-says (pairOf job t other) p .0 (l .none-beats (pairOf job t other) (order-pair job t left other (tried left o)))),
     λ h. plans-complete job t left p (record {
       found = subst (λ (q : Pair). List·Memᴰ q (attained job t left)) (h .0 .1 .1) (order-pair job t left (h .0 .0) (tried left (h .0 .1 .0)));
-      none-beats = λ q m. let u = pair-order job t left q m in subst (λ (r : Pair). T (not (beats r p))) (u .2) (h .1 (u .0) (whole left (u .1)));
+      none-beats = λ q m.
+          let u = pair-order job t left q m in
+          unbeaten-says q p .1 (subst (λ (r : Pair). ¬ Beats r p) (u .2) (h .1 (u .0) (whole left (u .1))));
     }),
   )
 

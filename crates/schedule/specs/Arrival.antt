@@ -34,6 +34,18 @@ module _ (job : ℕ → Job) where
   byArrival [] = []
   byArrival (i ∷ is) = placedByArrival i (byArrival is)
 
+  -- Beside the sort, what it is to be sorted. Row i arrives no later than row j: it has the smaller release; or the same release and the
+  -- smaller due; or the same of both, and its number is no greater.
+  pub data ArrivesFirst (i j : ℕ) : Type 0 where
+    by-release : job i .release < job j .release → ArrivesFirst i j
+    by-due : job i .release ≡ job j .release → job i .due < job j .due → ArrivesFirst i j
+    by-row : job i .release ≡ job j .release → job i .due ≡ job j .due → i ≤ j → ArrivesFirst i j
+
+  -- Each row of the order arrives no later than all after it.
+  abbrev pub InArrival : List ℕ → Type 0
+  InArrival [] = Unit {0}
+  InArrival (i ∷ is) = ((j : ℕ) → List·Memᴰ j is → ArrivesFirst i j) × InArrival is
+
   -- The order for the bound y: that order, if its worst lateness is at most y; otherwise none.
   unfoldable pub arrivalFor : ℕ → List ℕ → ℤ → Option (List ℕ)
   arrivalFor t left y = cond (leZ (pairOf job t (byArrival left) .late) y) (some (byArrival left)) none
@@ -42,7 +54,9 @@ module _ (job : ℕ → Job) (t : ℕ) (left : List ℕ) where
   pub record ArrivalPromise : Type 0 where
     -- The order by arrival has every row once ..
     pub whole : OrderOf left (byArrival job left)
-    -- .. ends no later and is no later at worst than every order of the rows.
+    -- .. by release, then due, then row ..
+    pub sorted : InArrival job (byArrival job left)
+    -- .. and ends no later and is no later at worst than every order of the rows.
     pub least : (order : List ℕ) → OrderOf left order →
         (endOf job t (byArrival job left) ≤ endOf job t order) × (pairOf job t (byArrival job left) .late ≤ℤ pairOf job t order .late)
     -- So the list, the pairs that some order attains and none beats, is its pair alone ..

@@ -1,19 +1,17 @@
 -- Property 3 of the definitions: what is promised of any rows in agreement, from any minute on. Its proof is `promised`, in
 -- proofs/Cover.antt. Rests on: Desk, Picks, Plans.
 use Prim.Native.Nat.{ℕ, _+_, _≤_, _<_}
-use mathlib.Core.Bool.{not}
 use mathlib.Core.Path.{_≡_}
 use mathlib.Core.List.{List, [], _∷_, List·Memᴰ}
 use mathlib.Core.Logic.{_↔_}
 use mathlib.Core.Option.{Option, none, some}
-use lib.Dec.{T}
 use lib.ListN.{length}
 use lib.IntN.{ℤ, pos, negsuc}
 use lib.Signed.{_≤ℤ_, _<ℤ_}
 use Rattle.theory.specs.Jobs.{Job}
 use Rattle.schedule.specs.Desk.{Pair, OrderOf, Attains, pairOf, endOf, idleOf, lengthsOf}
 use Rattle.schedule.specs.Picks.{orderFor}
-use Rattle.schedule.specs.Plans.{beats, plans, listByBounds}
+use Rattle.schedule.specs.Plans.{Beats, plans, listByBounds}
 
 -- Of two rows the one due later has no more spare (due minus release minus length). This is the ordering rule, freed of places in a book.
 abbrev pub Agreeing : (ℕ → Job) → List ℕ → Type 0
@@ -41,7 +39,7 @@ module _ (job : ℕ → Job) (t : ℕ) (left : List ℕ) (orders : ℤ → Optio
     pub unkept : (y : ℤ) → (orders y ≡ none) ↔ ((order : List ℕ) → OrderOf left order → ¬ (pairOf job t order .late ≤ℤ y))
     -- A pair is listed exactly if some order attains it and no order beats it.
     pub belongs : (p : Pair) → List·Memᴰ p (plans job t left) ↔
-        (((order : List ℕ) × Attains job t left order p) × ((other : List ℕ) → OrderOf left other → T (not (beats (pairOf job t other) p))))
+        (((order : List ℕ) × Attains job t left order p) × ((other : List ℕ) → OrderOf left other → ¬ Beats (pairOf job t other) p))
     -- Every order is covered: some listed pair has both numbers no greater.
     pub cover : (order : List ℕ) → OrderOf left order →
         (p : Pair) × List·Memᴰ p (plans job t left) × (p .end ≤ endOf job t order) × (p .late ≤ℤ pairOf job t order .late)

@@ -1,13 +1,14 @@
 -- The list of plans, by its definition: the pairs that some order of the rows attains and no order beats. And by ever smaller bounds.
 -- `job` says of each row number what planning sees of the row, t is the desk's minute, `left` the rows. Rests on: Rows, Desk, Picks.
-use Prim.Native.Nat.{ℕ, zero, suc, compare, Ordering, Ordering·lt, Ordering·eq, Ordering·gt}
+use Prim.Native.Nat.{ℕ, zero, suc, _≤_, _<_, compare, Ordering, Ordering·lt, Ordering·eq, Ordering·gt}
 use mathlib.Core.Bool.{Bool, false, cond, _&&_, _||_}
 use mathlib.Core.List.{List, [], _∷_, map, flatMap}
+use mathlib.Core.Logic.{_⊎_}
 use mathlib.Core.Option.{Option, none, some}
 use lib.Dec.{leb, ltb, eqb}
 use lib.ListN.{length}
 use lib.IntN.{ℤ, pos, predℤ}
-use lib.Signed.{leZ, ltZ}
+use lib.Signed.{leZ, ltZ, _≤ℤ_, _<ℤ_}
 use Rattle.theory.specs.Jobs.{Job}
 use Rattle.schedule.specs.Rows.{without}
 use Rattle.schedule.specs.Desk.{Pair, pairOf}
@@ -21,6 +22,12 @@ ordersOf (suc n) left = flatMap (λ i. map (λ order. i ∷ order) (ordersOf n (
 -- p beats q: both numbers no greater, with one smaller.
 unfoldable pub beats : Pair → Pair → Bool
 beats p q = leb (p .end) (q .end) && leZ (p .late) (q .late) && (ltb (p .end) (q .end) || ltZ (p .late) (q .late))
+
+-- The same as a statement; that the test says this is `beats-says`, in proofs/Beats.antt.
+pub record Beats (p q : Pair) : Type 0 where
+  pub ends : p .end ≤ q .end
+  pub lates : p .late ≤ℤ q .late
+  pub less : (p .end < q .end) ⊎ (p .late <ℤ q .late)
 
 unfoldable pub beatenBy : List Pair → Pair → Bool
 beatenBy [] q = false
