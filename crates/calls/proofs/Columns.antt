@@ -31,7 +31,7 @@ use Rattle.calls.specs.Calls.{gives, nth, Planning, planningIn, judgedOf
 use Rattle.calls.specs.Plannable.{Plannable}
 use Rattle.calls.proofs.CallLaws.{list-narrow, list-is, plan-is, plan-unlisted, verdict-no, verdict-is, order-narrow, order-some}
 use Rattle.calls.proofs.CallLaws.{order-none}
-use Rattle.calls.proofs.Kept.{Sound, posted}
+use Rattle.calls.proofs.Sound.{Sound, posted}
 
 module _ {profile : Profile} {job : ℕ → Job} {t n : ℕ} (p : Plannable profile job t n) where
   abbrev rows : List ℕ

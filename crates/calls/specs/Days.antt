@@ -11,7 +11,7 @@ use Rattle.book.specs.Rows.{Contents, accepted}
 use Rattle.readers.specs.declared.Terms.{Terms}
 use Rattle.row_calls.specs.declared.RowPlace.{RowPlace}
 use Rattle.readers.specs.Reads.{readBy}
-use Rattle.row_calls.specs.Places.{placeBy, wordsBy}
+use Rattle.row_calls.specs.Places.{placeCall, wordsCall}
 use Rattle.calls.specs.declared.ListAnswer.{ListAnswer}
 use Rattle.calls.specs.declared.ListAnswer.the-variants as list-answer
 use Rattle.calls.specs.declared.OrderAnswer.{OrderAnswer}
@@ -68,8 +68,8 @@ answerTo terms (list b buffer) = lists (listCall terms b buffer)
 answerTo terms (bound b y buffer) = orders (boundCall terms b y buffer)
 answerTo terms (plan b k buffer) = orders (planCall terms b k buffer)
 answerTo terms (posting b order) = judges (verdictCall terms b order)
-answerTo terms (rowWordsOf b k) = words (wordsBy terms b k)
-answerTo terms (rowPlaceOf b k) = finds (placeBy terms b k)
+answerTo terms (rowWordsOf b k) = words (wordsCall terms b k)
+answerTo terms (rowPlaceOf b k) = finds (placeCall terms b k)
 answerTo terms (lengthOf pages pace) = takes (lengthFor pages pace)
 
 -- A question of the table with its answer.

@@ -2,5 +2,4 @@ pub mod Answers
 pub mod Calls
 pub mod Lines
 pub mod Days
-pub mod CallsPromise
 pub mod Plannable

@@ -1,7 +1,7 @@
 // First come, first due: the calls offered to a bureau in whose books no two rows cross. Each is lent a book, has no `requires`, and its
 // contract gives its whole outcome: the answer, and every word of the result buffer at exit.
 ghost use mathlib.Core.Path.{_≡_};
-ghost use Rattle.row_calls.specs.Places.{placeBy, wordsBy};
+ghost use Rattle.row_calls.specs.Places.{placeCall, wordsCall};
 ghost use Rattle.calls.specs.Calls.{gives, listCall, boundCall, planCall, verdictCall};
 ghost use Rattle.first_come.specs.Promise.{firstCome};
 use calls::ListAnswer;
@@ -46,14 +46,14 @@ pub fn verdict(book: &[u32], posting: &[u32]) -> VerdictAnswer
 
 // The place of a row's number word, rows counted from 1, or the refusal.
 pub fn row_place(book: &[u32], row: u32) -> RowPlace
-    ensures { λ r. ⌜ r ≡ placeBy firstCome (now (book .entry)) row ⌝ }
+    ensures { λ r. ⌜ r ≡ placeCall firstCome (now (book .entry)) row ⌝ }
 {
     row_calls::row_place(FIRST_COME, book, row)
 }
 
 // The four words of a row, as the part of the caller's book that holds them; empty where the call is refused.
 pub fn row_words<'a>(book: &'a [u32], row: u32) -> &'a [u32]
-    ensures { λ r. ⌜ now r ≡ wordsBy firstCome (now (book .entry)) row ⌝ }
+    ensures { λ r. ⌜ now r ≡ wordsCall firstCome (now (book .entry)) row ⌝ }
 {
     row_calls::row_words(FIRST_COME, book, row)
 }

@@ -4,7 +4,7 @@
 ghost use mathlib.Core.Path.{_≡_};
 ghost use Rattle.calls.specs.Answers.{saidList, saidOrder, saidVerdict, saidPlace};
 ghost use Rattle.calls.specs.Calls.{listCall, boundCall, planCall, verdictCall};
-ghost use Rattle.row_calls.specs.Places.{placeBy};
+ghost use Rattle.row_calls.specs.Places.{placeCall};
 ghost use Rattle.planner.specs.Promise.{orderingRule};
 ghost use Rattle.first_come.specs.Promise.{firstCome};
 ghost use Rattle.answers.specs.Boundary.{answerOf};
@@ -48,7 +48,7 @@ pub extern "C" fn jelvaksna_verdict(book: &[u32], posting: &[u32]) -> Answer
 // The place of a row's number word; the row's four words stand from there on.
 #[no_mangle]
 pub extern "C" fn jelvaksna_row_place(book: &[u32], row: u32) -> Answer
-    ensures { λ r. ⌜ r ≡ answerOf (saidPlace (placeBy orderingRule (now (book .entry)) row)) ⌝ }
+    ensures { λ r. ⌜ r ≡ answerOf (saidPlace (placeCall orderingRule (now (book .entry)) row)) ⌝ }
 {
     answers::of_place(planner::row_place(book, row))
 }
@@ -101,7 +101,7 @@ pub extern "C" fn jelvaksna_first_come_verdict(book: &[u32], posting: &[u32]) ->
 // The place of a row's number word.
 #[no_mangle]
 pub extern "C" fn jelvaksna_first_come_row_place(book: &[u32], row: u32) -> Answer
-    ensures { λ r. ⌜ r ≡ answerOf (saidPlace (placeBy firstCome (now (book .entry)) row)) ⌝ }
+    ensures { λ r. ⌜ r ≡ answerOf (saidPlace (placeCall firstCome (now (book .entry)) row)) ⌝ }
 {
     answers::of_place(first_come::row_place(book, row))
 }

@@ -21,7 +21,7 @@ use Rattle.readers.specs.Reads.{readBy, outcomeOf}
 use Rattle.readers.proofs.Accepted.{read-words-gave}
 use Rattle.row_calls.specs.declared.RowPlace.{RowPlace}
 use Rattle.row_calls.specs.declared.RowPlace.the-variants.{At, Refused}
-use Rattle.row_calls.specs.Places.{placeIn, placeBy, rowWordsAt, WordsInside}
+use Rattle.row_calls.specs.Places.{placeIn, placeCall, rowWordsAt, WordsInside}
 
 -- The book is refused; it has no row of that number; it has one.
 pub place-refused : (x : Contents) (n p k : ℕ) → outcomeOf x ≡ tested.Refused n p → Refused n p ≡ placeIn x k
@@ -51,7 +51,7 @@ module _ (x : Contents) (count : ℕ) (counts : (day : Day) → x ≡ accepted d
       go (accepted day) e h = let n = h day refl in rw (← n, f)
 
 -- A row that is found: its four words stand in the book.
-pub inside : (terms : Terms) (book : List ℕ) (k : ℕ) (x : RowPlace) → x ≡ placeBy terms book k → WordsInside x book
+pub inside : (terms : Terms) (book : List ℕ) (k : ℕ) (x : RowPlace) → x ≡ placeCall terms book k → WordsInside x book
 unfolding placeIn
 inside terms book k x g a h = go (readBy terms book) refl (sym h ∙ g)
   where

@@ -21,16 +21,16 @@ unfoldable pub placeIn : Contents → ℕ → RowPlace
 placeIn (refused n p) k = Refused n p
 placeIn (accepted day) k = cond (eqb k 0 || ltb (length (day .rows)) k) (Refused byUnlisted (length (day .rows))) (At (numberWord k))
 
-abbrev pub placeBy : Terms → List ℕ → ℕ → RowPlace
-placeBy terms book k = placeIn (readBy terms book) k
+abbrev pub placeCall : Terms → List ℕ → ℕ → RowPlace
+placeCall terms book k = placeIn (readBy terms book) k
 
 -- The stretch of the book that holds the four words of a row at its place, empty where the call is refused.
 abbrev pub rowWordsAt : RowPlace → List ℕ → List ℕ
 rowWordsAt (At place) book = take 4 (drop place book)
 rowWordsAt (Refused n p) book = []
 
-abbrev pub wordsBy : Terms → List ℕ → ℕ → List ℕ
-wordsBy terms book k = rowWordsAt (placeBy terms book k) book
+abbrev pub wordsCall : Terms → List ℕ → ℕ → List ℕ
+wordsCall terms book k = rowWordsAt (placeCall terms book k) book
 
 -- The four words at a place that was found stand in the book.
 abbrev pub WordsInside : RowPlace → List ℕ → Type 0

@@ -1,6 +1,6 @@
 // The calls for a row by its number, of either profile: the place of its number word, and the part of the book that holds its words.
 ghost use mathlib.Core.Path.{_≡_};
-ghost use Rattle.row_calls.specs.Places.{placeBy, rowWordsAt, wordsBy, WordsInside, PlaceAmong};
+ghost use Rattle.row_calls.specs.Places.{placeCall, rowWordsAt, wordsCall, WordsInside, PlaceAmong};
 use readers::Terms;
 use refusals::Tested;
 
@@ -31,7 +31,7 @@ fn place_among(outcome: Tested, count: usize, row: u32) -> RowPlace
 
 // The place of a row's number word, rows counted from 1, or the refusal.
 pub fn row_place(terms: Terms, book: &[u32], row: u32) -> RowPlace
-    ensures { λ r. ⌜ r ≡ placeBy terms (now (book .entry)) row ⌝ }
+    ensures { λ r. ⌜ r ≡ placeCall terms (now (book .entry)) row ⌝ }
 {
     let given = readers::read(terms, book);
     let outcome = given.outcome;
@@ -54,7 +54,7 @@ fn words_at<'a>(book: &'a [u32], found: RowPlace) -> &'a [u32]
 
 // The four words of a row, as the part of the caller's book that holds them; empty where the call is refused.
 pub fn row_words<'a>(terms: Terms, book: &'a [u32], row: u32) -> &'a [u32]
-    ensures { λ r. ⌜ now r ≡ wordsBy terms (now (book .entry)) row ⌝ }
+    ensures { λ r. ⌜ now r ≡ wordsCall terms (now (book .entry)) row ⌝ }
 {
     let found = row_place(terms, book, row);
     words_at(book, found)

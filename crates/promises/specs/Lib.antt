@@ -1,0 +1,3 @@
+pub mod Vocabulary
+pub mod Table
+pub mod Promise

@@ -1,0 +1,167 @@
+-- The three properties of the offered calls, for every book, bound, plan number, posting and buffer. `terms` is what the calls are told:
+-- `orderingRule` (planner) or `firstCome` (first_come). The proofs are `lent-memory`, `definitions-hold` and `cover-holds`, in
+-- proofs/Promise.antt. That each function does what is said here of its call is its contract (planner/src, first_come/src).
+-- Rests on: Vocabulary, Table, the grammar of books, the schedule.
+use Prim.Native.Nat.{ℕ, _*_, _≤_, _<_}
+use mathlib.Core.Path.{_≡_}
+use mathlib.Core.List.{List, [], List·Memᴰ}
+use mathlib.Core.Logic.{_↔_}
+use mathlib.Core.Option.{some}
+use lib.ListN.{length, take, drop}
+use lib.IntN.{ℤ, pos}
+use lib.Signed.{_≤ℤ_, _<ℤ_}
+use Rattle.schedule.specs.Limits.{latestBookEnd, leastLateness}
+use Rattle.schedule.specs.declared.Profile.{Profile}
+use Rattle.schedule.specs.declared.Profile.the-variants.{Ordering, FirstCome}
+use Rattle.schedule.specs.declared.Class.the-variants.{Of}
+use Rattle.schedule.specs.Rows.{row, Day, jobs, rowNumbers}
+use Rattle.schedule.specs.Desk.{Pair, OrderOf, Attains, endOf, pairOf}
+use Rattle.schedule.specs.Plans.{plans, firstBeating}
+use Rattle.schedule.specs.Cover.{Rising}
+use Rattle.refusals.specs.Refusals.{byUnkept}
+use Rattle.row_reader.specs.NearestMinute.{NearestMinute}
+use Rattle.pairs.specs.Pairs.{numberWord}
+use Rattle.grammar.specs.Books.{Tells}
+use Rattle.book.specs.Rows.{accepted}
+use Rattle.readers.specs.declared.Terms.{Terms}
+use Rattle.readers.specs.Reads.{readBy}
+use Rattle.results.specs.Results.{written, planWords, orZero}
+use Rattle.calls.specs.Answers.{Said, saidNo}
+use Rattle.calls.specs.Calls.{Outcome, gives, nth, Planning, planningOf}
+use Rattle.promises.specs.Vocabulary.{saidCount, saidPair, saidJudged, saidAt, Refuses, listed, ReaderOrder, endBy, lateBy, pairBy}
+use Rattle.promises.specs.Vocabulary.{list, bound, plan, verdict, place, words, NoneBeats, Accepts}
+use Rattle.promises.specs.Table.{Turned, ListTurned, BoundTurned, PlanTurned, VerdictTurned, RowTurned}
+
+-- # 1. The lent memory
+-- "No call reads or writes outside it, every call ends on every content, the book is never written." This the check of each function
+-- shows: no offered call has a `requires`, and the book is lent for reading.
+--
+-- "A refused call returns one number of the table and one place, and every lent buffer holds what it held." The numbers are 1 to 12; of
+-- first come, first due 1 to 13, and never 8. And no call makes a buffer longer or shorter.
+abbrev pub InTable : Profile → ℕ → Type 0
+InTable Ordering n = (1 ≤ n) × (n ≤ 12)
+InTable FirstCome n = (1 ≤ n) × (n ≤ 13) × ¬ (n ≡ 8)
+
+pub record Lent (profile : Profile) (b : List ℕ) (o : Outcome Said) : Type 0 where
+  pub number : 1 ≤ o .answer .number → InTable profile (o .answer .number)
+  pub buffer : 1 ≤ o .answer .number → o .buffer ≡ b
+  pub same-length : length (o .buffer) ≡ length b
+
+pub record Property1 (terms : Terms) : Type 0 where
+  pub of-list : (book b : List ℕ) → Lent (terms .profile) b (list terms book b)
+  pub of-bound : (book : List ℕ) (y : ℤ) (b : List ℕ) → Lent (terms .profile) b (bound terms book y b)
+  pub of-plan : (book : List ℕ) (k : ℕ) (b : List ℕ) → Lent (terms .profile) b (plan terms book k b)
+  pub of-verdict : (book posting : List ℕ) → 1 ≤ verdict terms book posting .number →
+      InTable (terms .profile) (verdict terms book posting .number)
+  -- A refused call for a row's words gives an empty part.
+  pub of-row : (book : List ℕ) (k : ℕ) → 1 ≤ place terms book k .number →
+      InTable (terms .profile) (place terms book k .number) × (words terms book k ≡ [])
+  -- "Up to 256 rows are taken." `Accepts` asks for no more of a book than that it is written from 1 to 256 rows in range with different
+  -- numbers, of which no two clash; and no call is then refused for the book or, lent a buffer of two words for each row, at all.
+  pub rows-taken : (book : List ℕ) (day : Day) → Accepts (terms .profile) book day → (b : List ℕ) →
+      2 * length (day .rows) ≤ length b → list terms book b .answer .number ≡ 0
+
+-- # 2. The definitions
+-- "Each accepted book gives the ends, latenesses and orders of the definitions": what each call answers and writes, outright. `plans` are
+-- the pairs that some order of the rows attains and no order beats, by rising end.
+module _ (terms : Terms) (book : List ℕ) (day : Day) where
+  abbrev pub front : List Pair
+  front = plans (jobs day) (day .free) (rowNumbers day)
+
+  pub record Given : Type 0 where
+    pub of-list : (b : List ℕ) → 2 * length (day .rows) ≤ length b →
+        list terms book b ≡ gives (saidCount (length front)) (written (planWords front) b)
+    pub of-bound : (y : ℤ) (b order : List ℕ) → length (day .rows) ≤ length b → planningOf (terms .profile) day .orders y ≡ some order →
+        bound terms book y b ≡ gives (saidPair (pairOf (jobs day) (day .free) order)) (written order b)
+    -- Each pair's order is the order for the bound equal to its lateness.
+    pub of-plan : (k : ℕ) (p : Pair) (b : List ℕ) → nth front k ≡ some p → plan terms book k b ≡ bound terms book (p .late) b
+    pub of-verdict : (posting : List ℕ) → OrderOf (rowNumbers day) posting →
+        verdict terms book posting ≡
+        let pair = pairOf (jobs day) (day .free) posting in
+        saidJudged pair (orZero (firstBeating 1 front pair))
+    pub of-row : (k : ℕ) → 1 ≤ k → k ≤ length (day .rows) →
+        (place terms book k ≡ saidAt (numberWord k)) × (words terms book k ≡ take 4 (drop (numberWord k) book))
+    -- Ends are at most 17,680,000 and lateness lies between -19,999,999 and 17,680,000.
+    pub ranges : (order : List ℕ) → OrderOf (rowNumbers day) order →
+        (endOf (jobs day) (day .free) order ≤ latestBookEnd) ×
+        (pairOf (jobs day) (day .free) order .late ≤ℤ pos latestBookEnd) × (leastLateness ≤ℤ pairOf (jobs day) (day .free) order .late)
+
+-- "Each refusal comes under its stated condition and no other": refused n at p exactly if the condition holds and no earlier one does.
+pub record Property2 (terms : Terms) : Type 0 where
+  -- The calls plan the day of a book exactly if the book is accepted; then they give what is defined.
+  pub accepts : (book : List ℕ) (day : Day) → (readBy terms book ≡ accepted day) ↔ Accepts (terms .profile) book day
+  pub given : (book : List ℕ) (day : Day) → Accepts (terms .profile) book day → Given terms book day
+  pub list-refused : (book b : List ℕ) (n p : ℕ) → Refuses (list terms book b .answer) n p ↔
+      Turned (terms .profile) book (λ day. ListTurned (planningOf (terms .profile) day) b) n p
+  pub bound-refused : (book : List ℕ) (y : ℤ) (b : List ℕ) (n p : ℕ) → Refuses (bound terms book y b .answer) n p ↔
+      Turned (terms .profile) book (λ day. BoundTurned (planningOf (terms .profile) day) y b) n p
+  pub plan-refused : (book : List ℕ) (k : ℕ) (b : List ℕ) (n p : ℕ) → Refuses (plan terms book k b .answer) n p ↔
+      Turned (terms .profile) book (λ day. PlanTurned (planningOf (terms .profile) day) k b) n p
+  pub verdict-refused : (book posting : List ℕ) (n p : ℕ) → Refuses (verdict terms book posting) n p ↔
+      Turned (terms .profile) book (λ day. VerdictTurned (length (day .rows)) posting) n p
+  pub row-refused : (book : List ℕ) (k n p : ℕ) → Refuses (place terms book k) n p ↔
+      Turned (terms .profile) book (λ day. RowTurned (length (day .rows)) k) n p
+  -- A length is the reading time to the nearest minute, between 1 and 30,000.
+  pub nearest-minute : NearestMinute
+  -- By the ordering rule a book of one class is never refused for disorder, however its rows stand.
+  pub one-class : terms .profile ≡ Ordering → (book : List ℕ) (day : Day) (c : ℕ) → Tells book day →
+      ((i : ℕ) → List·Memᴰ i (rowNumbers day) → row (day .rows) i .class ≡ Of c) → Accepts (terms .profile) book day
+
+-- # 3. The cover
+-- Of what is planned, and L, the plans as they are listed in a buffer of two words for each row.
+module _ (planning : Planning) (L : List Pair) where
+  pub record Covered : Type 0 where
+    -- "Whatever order of the rows a reader might take, some listed plan ends no later and has a worst lateness no greater."
+    pub cover : (order : List ℕ) → ReaderOrder planning order →
+        (p : Pair) × List·Memᴰ p L × (p .end ≤ endBy planning order) × (p .late ≤ℤ lateBy planning order)
+    -- "Listed plans rise strictly in end and fall strictly in lateness."
+    pub rising : Rising L
+    -- A pair is listed exactly if some order attains it and no order beats it.
+    pub belongs : (p : Pair) → List·Memᴰ p L ↔
+        (((order : List ℕ) × Attains (planning .job) (planning .minute) (planning .left) order p) × NoneBeats planning p)
+    -- "There are at most as many plans as rows", and there is one.
+    pub few : (1 ≤ length L) × (length L ≤ length (planning .left))
+
+  -- "Each plan's order is the one defined for it, has every row once and attains its pair": asked for by the plan's number, into any
+  -- buffer of one word for each row.
+  abbrev pub PlanOrders : (plan : ℕ → List ℕ → Outcome Said) → Type 0
+  PlanOrders plan = (k : ℕ) (p : Pair) (c : List ℕ) → nth L k ≡ some p → length (planning .left) ≤ length c →
+      (order : List ℕ) × (planning .orders (p .late) ≡ some order) ×
+      Attains (planning .job) (planning .minute) (planning .left) order p × (plan k c ≡ gives (saidPair p) (written order c))
+
+  -- The verdict on a posting that is an order of the rows.
+  pub record Judged (posted : List ℕ) (v : Said) : Type 0 where
+    -- It tells the posting's own end and worst lateness ..
+    pub own : v ≡ saidJudged (pairBy planning posted) (v .count)
+    -- .. and is unbeaten, with no plan's number, exactly if no order of the rows beats it.
+    pub unbeaten : (v .count ≡ 0) ↔ NoneBeats planning (pairBy planning posted)
+    -- The auditor's question: another order ends sooner without making the worst transcript later exactly if the verdict names a plan
+    -- whose end is smaller.
+    pub sooner : ((other : List ℕ) × ReaderOrder planning other × (endBy planning other < endBy planning posted) ×
+        (lateBy planning other ≤ℤ lateBy planning posted)) ↔
+        ((p : Pair) × (nth L (v .count) ≡ some p) × (p .end < endBy planning posted))
+    -- Likewise the other way about: another order is less late at worst without ending later exactly if some listed plan is, the one that
+    -- the verdict names or one after it.
+    pub less-late : ((other : List ℕ) × ReaderOrder planning other × (endBy planning other ≤ endBy planning posted) ×
+        (lateBy planning other <ℤ lateBy planning posted)) ↔
+        ((k : ℕ) × (p : Pair) × (1 ≤ v .count) × (v .count ≤ k) × (nth L k ≡ some p) × (p .end ≤ endBy planning posted) ×
+        (p .late <ℤ lateBy planning posted))
+
+-- A bound into a buffer c of one word for each row. Either an order is given: the one defined, with every row once, which keeps the bound
+-- and ends no later than any that does. Or it is refused as unkept, and no order keeps it.
+pub data BoundAnswered (planning : Planning) (y : ℤ) (c : List ℕ) (o : Outcome Said) : Type 0 where
+  kept : (order : List ℕ) → planning .orders y ≡ some order → ReaderOrder planning order → lateBy planning order ≤ℤ y →
+      ((other : List ℕ) → ReaderOrder planning other → lateBy planning other ≤ℤ y → endBy planning order ≤ endBy planning other) →
+      o ≡ gives (saidPair (pairBy planning order)) (written order c) → BoundAnswered planning y c o
+  unkept : ((order : List ℕ) → ReaderOrder planning order → ¬ (lateBy planning order ≤ℤ y)) → o ≡ gives (saidNo byUnkept 0) c →
+      BoundAnswered planning y c o
+
+pub record Property3 (terms : Terms) (book : List ℕ) (day : Day) : Type 0 where
+  pub covered : (b : List ℕ) → 2 * length (day .rows) ≤ length b →
+      Covered (planningOf (terms .profile) day) (listed (list terms book b))
+  pub plan-orders : (b : List ℕ) → 2 * length (day .rows) ≤ length b →
+      PlanOrders (planningOf (terms .profile) day) (listed (list terms book b)) (plan terms book)
+  pub bounds : (y : ℤ) (c : List ℕ) → length (day .rows) ≤ length c →
+      BoundAnswered (planningOf (terms .profile) day) y c (bound terms book y c)
+  pub verdicts : (b : List ℕ) → 2 * length (day .rows) ≤ length b → (posted : List ℕ) → OrderOf (rowNumbers day) posted →
+      Judged (planningOf (terms .profile) day) (listed (list terms book b)) posted (verdict terms book posted)

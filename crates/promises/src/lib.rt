@@ -1,0 +1,1 @@
+// What is promised of the offered calls: statements and their proofs, no code.
