@@ -1,5 +1,6 @@
--- Books as they are written: from a free minute, a pace and rows as they came in. The proof that the reader gives back what was written,
--- and takes nothing else, is `books-read`, in proofs/Books.antt. Rests on: the limits, the row reader's lengths and margins.
+-- Books as they are written: from a free minute, a pace and rows as they came in. The proofs that the reader gives back what was written,
+-- and takes nothing else, are `written-is-read` and `read-is-written`, in proofs/Books.antt.
+-- Rests on: the limits, the row reader's lengths and margins.
 use Prim.Native.Nat.{ℕ, _+_, _*_, _≤_, _<_}
 use mathlib.Core.Path.{_≡_}
 use mathlib.Core.List.{List, [], _∷_, _++_, map, List·Memᴰ}
@@ -101,7 +102,8 @@ pub record Tells (book : List ℕ) (day : Day) : Type 0 where
 
 -- The round trip: the book written from up to 256 such rows passes tests 1 to 7 and gives those rows ..
 abbrev pub WrittenIsRead : Type 0
-WrittenIsRead = (free pace : ℕ) (es : List Entry) → MayBeWritten free pace es → readWords (bookOf free pace es) ≡ accepted (dayBy free pace es)
+WrittenIsRead = (free pace : ℕ) (es : List Entry) → MayBeWritten free pace es →
+    readWords (bookOf free pace es) ≡ accepted (dayBy free pace es)
 
 -- .. and a book that passes them is one so written.
 abbrev pub ReadIsWritten : Type 0

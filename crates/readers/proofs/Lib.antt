@@ -7,3 +7,4 @@ pub mod Settled
 pub mod OneClass
 pub mod Numbered
 pub mod Readings
+pub mod OneDay

@@ -3,3 +3,4 @@ pub mod Reads
 pub mod Accepted
 pub mod Settled
 pub mod OneClass
+pub mod OneDay
