@@ -160,8 +160,7 @@ module _ (g : Planning) (s : Sound g) where
           let n = later-ends defined (s .promise .rising) j (u .0) p (u .1) at (u .2) l in
           (p, at-k, omega (arith, n, u .3, h .2)),
       λ h. let u = attained p (elem-mem defined j p at) in
-          let same : p ≡ h .0 = Option·some-injective p (h .0) (sym at-k ∙ h .1) in
-          (
+          let same : p ≡ h .0 = Option·some-injective p (h .0) (sym at-k ∙ h .1) in (
             u .0,
             u .1,
             omega (arith, ap (λ (q : Pair). q .end) (u .2), ap (λ (q : Pair). q .end) same, h .2),
@@ -175,13 +174,16 @@ module _ (g : Planning) (s : Sound g) where
     less-late-by : (o : Option ℕ) → First 1 defined own o → LessLate ↔
         ((k : ℕ) × (p : Pair) × (1 ≤ orZero o) × (orZero o ≤ k) × (nth defined k ≡ some p) × (p .end ≤ endBy g posting) ×
         (p .late <ℤ lateBy g posting))
-    less-late-by o f = (λ h. there h (under (h .0) (h .1) (h .2) (lt-le (h .3))) o f, λ h.
-        let u = attained (h .1) (nth-mem defined (h .0) (h .1) (h .4)) in (
-          u .0,
-          u .1,
-          omega (arith, ap (λ (q : Pair). q .end) (u .2), h .5),
-          subst (λ (q : Pair). q .late <ℤ own .late) (sym (u .2)) (h .6),
-        ))
+    less-late-by o f = (
+      λ h. there h (under (h .0) (h .1) (h .2) (lt-le (h .3))) o f,
+      λ h.
+          let u = attained (h .1) (nth-mem defined (h .0) (h .1) (h .4)) in (
+            u .0,
+            u .1,
+            omega (arith, ap (λ (q : Pair). q .end) (u .2), h .5),
+            subst (λ (q : Pair). q .late <ℤ own .late) (sym (u .2)) (h .6),
+          ),
+    )
       where
         there : (h : LessLate) →
             (j : ℕ) × (p : Pair) × (getElem? defined j ≡ some p) × (p .end ≤ endBy g (h .0)) × (p .late ≤ℤ lateBy g (h .0)) →
