@@ -1,13 +1,15 @@
 -- Days worked through: how a table of questions and expected answers is written, and what it is for such a table to hold of the
--- definitions. The tables are in planner/specs/Days and first_come/specs/Days. Rests on: Calls, Lines, the readers.
-use Prim.Native.Nat.{ℕ, _+_, _*_}
+-- definitions. The tables are in planner/specs/Days and first_come/specs/Days. Rests on: Calls, Lines, the readers, the grammar's books.
+use Prim.Native.Nat.{ℕ}
 use mathlib.Core.Path.{_≡_, sym, ap, _∙_}
-use mathlib.Core.List.{List, [], _∷_, _++_, map, List·Memᴰ, List·Memᴰ·head, List·Memᴰ·tail, head-eq-of-cons-eq, tail-eq-of-cons-eq}
+use mathlib.Core.List.{List, [], _∷_, map, List·Memᴰ, List·Memᴰ·head, List·Memᴰ·tail, head-eq-of-cons-eq, tail-eq-of-cons-eq}
 use lib.ListN.{length}
 use lib.IntN.{ℤ}
 use Rattle.schedule.specs.declared.Class.the-variants.{Of}
 use Rattle.row_reader.specs.RowWords.{lengthOf as lengthFor}
 use Rattle.book.specs.Rows.{Contents, accepted}
+use Rattle.grammar.specs.Books as books
+use Rattle.grammar.specs.Books.{Entry}
 use Rattle.readers.specs.declared.Terms.{Terms}
 use Rattle.row_calls.specs.declared.RowPlace.{RowPlace}
 use Rattle.readers.specs.Reads.{readBy}
@@ -21,21 +23,11 @@ use Rattle.calls.specs.Calls.{Outcome, gives, listCall, boundCall, planC
 use Rattle.calls.specs.Lines.{Line, Printed, printed}
 
 -- A row of a book as the days give it: number, release, pages and due, or class.
-pub data Entry : Type 0 where
-  entry : ℕ → ℕ → ℕ → ℕ → Entry
-  sold : ℕ → ℕ → ℕ → ℕ → Entry
+abbrev pub entry : ℕ → ℕ → ℕ → ℕ → Entry
+entry n r p d = record { number = n; release = r; pages = p; sold = books.due d }
 
--- A word of a kind and a value, and the words of a book.
-abbrev pub wordOf : ℕ → ℕ → ℕ
-wordOf k v = k * 536870912 + v
-
-abbrev pub entryWords : List Entry → List ℕ
-entryWords [] = []
-entryWords (entry n r p d ∷ es) = wordOf 3 n ∷ wordOf 4 r ∷ wordOf 5 p ∷ wordOf 6 d ∷ entryWords es
-entryWords (sold n r p c ∷ es) = wordOf 3 n ∷ wordOf 4 r ∷ wordOf 5 p ∷ wordOf 0 c ∷ entryWords es
-
-abbrev pub book : (free pace : ℕ) → List Entry → List ℕ
-book free pace es = wordOf 1 free ∷ wordOf 2 pace ∷ (entryWords es ++ (wordOf 7 (length es) ∷ []))
+abbrev pub sold : ℕ → ℕ → ℕ → ℕ → Entry
+sold n r p c = record { number = n; release = r; pages = p; sold = books.class c }
 
 -- What is asked: the reading of a book, what slate prints, one of the calls, or a length.
 pub data Asked : Type 0 where
@@ -60,7 +52,7 @@ pub data Reply : Type 0 where
   finds : RowPlace → Reply
   takes : ℕ → Reply
 
--- By a terms; what slate prints is by the ordering rule, and a length is by turnedDown.
+-- By the terms of the calls. (A length is by none.)
 abbrev pub answerTo : Terms → Asked → Reply
 answerTo terms (reading b) = reads (readBy terms b)
 answerTo terms (printing b) = prints (printed terms b)

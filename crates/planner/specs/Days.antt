@@ -17,9 +17,11 @@ use Rattle.postings.specs.Posting.{openPosting}
 use Rattle.results.specs.Results.{openResults}
 use Rattle.calls.specs.declared.ListAnswer.the-variants as list-answer
 use Rattle.calls.specs.declared.VerdictAnswer.the-variants as verdict-answer
+use Rattle.grammar.specs.Books.{wordOf}
+use Rattle.grammar.specs.Books.{bookOf as book}
 use Rattle.calls.specs.Calls.{gives, openCalls}
 use Rattle.calls.specs.Lines.{listing, openLines}
-use Rattle.calls.specs.Days.{entry, sold, wordOf, book, reading, printing, list, bound, plan, posting, rowWordsOf, rowPlaceOf, lengthOf}
+use Rattle.calls.specs.Days.{entry, sold, reading, printing, list, bound, plan, posting, rowWordsOf, rowPlaceOf, lengthOf}
 use Rattle.calls.specs.Days.{reads, prints, lists, judges, words, finds, takes, lasts, due, plans, order, turnedDown, line}
 use Rattle.calls.specs.Days.{Worked, _gets_, answerTo, Hold, hold}
 use Rattle.planner.specs.Promise.{orderingRule}

@@ -156,7 +156,8 @@ pub data BoundAnswered (planning : Planning) (y : ℤ) (c : List ℕ) (o : Outco
   unkept : ((order : List ℕ) → ReaderOrder planning order → ¬ (lateBy planning order ≤ℤ y)) → o ≡ gives (saidNo byUnkept 0) c →
       BoundAnswered planning y c o
 
-pub record Property3 (terms : Terms) (book : List ℕ) (day : Day) : Type 0 where
+-- Of the calls on a book that gives a day.
+pub record Cover (terms : Terms) (book : List ℕ) (day : Day) : Type 0 where
   pub covered : (b : List ℕ) → 2 * length (day .rows) ≤ length b →
       Covered (planningOf (terms .profile) day) (listed (list terms book b))
   pub plan-orders : (b : List ℕ) → 2 * length (day .rows) ≤ length b →
@@ -165,3 +166,6 @@ pub record Property3 (terms : Terms) (book : List ℕ) (day : Day) : Type 0 wher
       BoundAnswered (planningOf (terms .profile) day) y c (bound terms book y c)
   pub verdicts : (b : List ℕ) → 2 * length (day .rows) ≤ length b → (posted : List ℕ) → OrderOf (rowNumbers day) posted →
       Judged (planningOf (terms .profile) day) (listed (list terms book b)) posted (verdict terms book posted)
+
+abbrev pub Property3 : Terms → Type 0
+Property3 terms = (book : List ℕ) (day : Day) → Accepts (terms .profile) book day → Cover terms book day

@@ -1,0 +1,100 @@
+-- Property 1 of the calls: numbers of the table, buffers kept on refusal, and buffers of the same length.
+-- Assumes nothing.
+use Prim.Native.Nat.{ℕ, _*_, _≤_}
+use native.Mathlib.Omega.{arith}
+use native.Mathlib.Decide.{decLe}
+use mathlib.Core.Path.{_≡_, refl, sym, subst}
+use mathlib.Core.List.{List}
+use mathlib.Core.Option.{Option, none, some}
+use lib.ListN.{length, length-append, length-drop}
+use lib.IntN.{ℤ}
+use Rattle.schedule.specs.declared.Profile.{Profile}
+use Rattle.schedule.specs.declared.Profile.the-variants.{Ordering, FirstCome}
+use Rattle.schedule.specs.Rows.{Day}
+use Rattle.schedule.specs.Desk.{Pair, pairOf}
+use Rattle.schedule.proofs.Orders.{perm-count}
+use Rattle.results.specs.Results.{written, planWords}
+use Rattle.results.proofs.ResultWords.{plan-length}
+use Rattle.grammar.specs.Words.{Wrong, cut, kind, range, twice, full, count, tail}
+use Rattle.calls.specs.Answers.{Said, saidNo, saidList, saidOrder}
+use Rattle.calls.specs.Calls.{Outcome, gives, nth, Planning, listOutcome, orderOutcome, planOutcome}
+use Rattle.calls.proofs.Sound.{Sound}
+use Rattle.calls.proofs.CallLaws.{list-narrow, list-is, plan-is, plan-unlisted, order-narrow, order-some, order-none}
+use Rattle.promises.specs.Vocabulary.{told, saidCount, saidPair}
+use Rattle.promises.specs.Table.{BookRefused, by-word, disorder, crossed, Turned, by-book, by-call}
+use Rattle.promises.specs.Promise.{InTable}
+
+-- The numbers that the conditions of a call tell are of the table.
+wrong-numbered : {book : List ℕ} {n p : ℕ} → Wrong book n p → (1 ≤ n) × (n ≤ 7)
+wrong-numbered (cut d) = (omega arith, omega arith)
+wrong-numbered (kind p d l w) = (omega arith, omega arith)
+wrong-numbered (range p d l w) = (omega arith, omega arith)
+wrong-numbered (twice i j d l k f e) = (omega arith, omega arith)
+wrong-numbered (full d l k) = (omega arith, omega arith)
+wrong-numbered (count n d a v) = (omega arith, omega arith)
+wrong-numbered (tail n d a l) = (omega arith, omega arith)
+
+up-to-7 : (profile : Profile) (n : ℕ) → (1 ≤ n) × (n ≤ 7) → InTable profile n
+up-to-7 Ordering n h = (h .0, omega (arith, h .1))
+up-to-7 FirstCome n h = (h .0, omega (arith, h .1), λ e. omega (arith, h .1))
+
+from-9 : (profile : Profile) (n : ℕ) → (9 ≤ n) × (n ≤ 12) → InTable profile n
+from-9 Ordering n h = (omega (arith, h .0), h .1)
+from-9 FirstCome n h = (omega (arith, h .0), omega (arith, h .1), λ e. omega (arith, h .0))
+
+book-numbered : {profile : Profile} {book : List ℕ} {n p : ℕ} → BookRefused profile book n p → InTable profile n
+book-numbered {profile} (by-word n p f) = up-to-7 profile n (wrong-numbered (f .wrong))
+book-numbered (disorder e day t k c) = subst (λ (x : Profile). InTable x 8) (sym e) (omega arith, omega arith)
+book-numbered (crossed e day t k c) = subst (λ (x : Profile). InTable x 13) (sym e) (omega arith, omega arith, λ e. omega arith)
+
+pub turned-numbered : {profile : Profile} {book : List ℕ} {Own : Day → (n p : ℕ) → Type 0} {n p : ℕ} →
+    ((day : Day) (n p : ℕ) → Own day n p → (9 ≤ n) × (n ≤ 12)) → Turned profile book Own n p → InTable profile n
+turned-numbered f (by-book r) = book-numbered r
+turned-numbered {profile} {book} {Own} {n} {p} f (by-call day a o) = from-9 profile n (f day n p o)
+
+-- What becomes of the buffer.
+pub record Kept (b : List ℕ) (o : Outcome Said) : Type 0 where
+  pub refused : 1 ≤ o .answer .number → o .buffer ≡ b
+  pub same-length : length (o .buffer) ≡ length b
+
+pub kept-no : {n p : ℕ} {b : List ℕ} → Kept b (gives (saidNo n p) b)
+kept-no = record { refused = λ h. refl; same-length = refl }
+
+kept-yes : (said : Said) (ws b : List ℕ) → said .number ≡ 0 → length ws ≤ length b → Kept b (gives said (written ws b))
+unfolding written
+kept-yes said ws b e h = record {
+  refused = λ l. let z : ⊥ = omega arith in absurd z;
+  same-length = simp (length-append, length-drop) (omega arith);
+}
+
+module _ (g : Planning) (s : Sound g) where
+  pub list-kept : (b : List ℕ) → Kept b (told saidList (listOutcome g b))
+  list-kept b = step (decLe (2 * length (g .left)) (length b))
+    where
+      few : length (g .plans) ≤ length (g .left)
+      few = rw (s .front) (s .promise .few .1)
+
+      step : Dec (2 * length (g .left) ≤ length b) → Kept b (told saidList (listOutcome g b))
+      step (yes h) = rw (list-is g b h)
+          (kept-yes (saidCount (length (g .plans))) (planWords (g .plans)) b refl (omega (arith, plan-length (g .plans), few)))
+      step (no h) = rw (list-narrow g b (omega arith)) kept-no
+
+  pub order-kept : (y : ℤ) (b : List ℕ) → Kept b (told saidOrder (orderOutcome g y b))
+  order-kept y b = step (decLe (length (g .left)) (length b))
+    where
+      search : length (g .left) ≤ length b → (o : Option (List ℕ)) → g .orders y ≡ o → Kept b (told saidOrder (orderOutcome g y b))
+      search h none e = rw (order-none g y b h e) kept-no
+      search h (some order) e =
+          let k = perm-count (s .promise .best y order e .0) .0 in
+          rw (order-some g y b h order e) (kept-yes (saidPair (pairOf (g .job) (g .minute) order)) order b refl (omega (arith, k)))
+
+      step : Dec (length (g .left) ≤ length b) → Kept b (told saidOrder (orderOutcome g y b))
+      step (yes h) = search h (g .orders y) refl
+      step (no h) = rw (order-narrow g y b (omega arith)) kept-no
+
+  pub plan-kept : (k : ℕ) (b : List ℕ) → Kept b (told saidOrder (planOutcome g k b))
+  plan-kept k b = step (nth (g .plans) k) refl
+    where
+      step : (o : Option Pair) → nth (g .plans) k ≡ o → Kept b (told saidOrder (planOutcome g k b))
+      step none h = rw (plan-unlisted g k b h) kept-no
+      step (some p) h = rw (plan-is g k p b h) (order-kept (p .late) b)
