@@ -2,18 +2,21 @@
 -- Assumes nothing.
 use Prim.Native.Nat.{ℕ, _+_, _*_, _≤_}
 use native.Mathlib.Omega.{arith}
-use mathlib.Core.Bool.{Bool, true, false}
+use mathlib.Core.Bool.{Bool, true, false, cond}
 use mathlib.Core.Logic.{inl, inr}
 use mathlib.Core.Path.{_≡_, refl, ap, subst, sym, _∙_}
 use mathlib.Core.List.{List, [], _∷_}
 use lib.Dec.{ltb, eqb}
-use lib.ListN.{getD}
 use borrow.Author.Tests.{ltb-true, ltb-false, eqb-true, eqb-false}
 use Rattle.grammar.specs.Words.{Wrong, cut, kind, range, twice, full, count, tail, turn, Earlier, FirstWrong}
 
 -- The number whose turn it is.
+abbrev firstWith : (t : ℕ) → List ℕ → ℕ
+firstWith t [] = 0
+firstWith t (n ∷ ns) = cond (eqb t (turn n)) n (firstWith t ns)
+
 abbrev numberAt : ℕ → ℕ
-numberAt t = getD (0 ∷ 1 ∷ 2 ∷ 5 ∷ 3 ∷ 4 ∷ 6 ∷ 7 ∷ []) t 0
+numberAt t = firstWith t (1 ∷ 2 ∷ 3 ∷ 4 ∷ 5 ∷ 6 ∷ 7 ∷ [])
 
 -- A number has one of seven turns, and the turn tells the number.
 pub record Turned (m : ℕ) : Type 0 where

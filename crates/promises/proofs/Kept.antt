@@ -21,8 +21,8 @@ use Rattle.calls.specs.Answers.{saidList, saidOrder, saidVerdict}
 use Rattle.calls.specs.Calls.{gives, nth, Planning, judgedOf, listOutcome, orderOutcome, planOutcome, verdictOutcome}
 use Rattle.calls.proofs.Sound.{Sound, posted}
 use Rattle.calls.proofs.CallLaws.{list-is, plan-is, verdict-is, order-some, order-none}
-use Rattle.promises.specs.Vocabulary.{told, saidCount, saidPair, saidJudged, listed, ReaderOrder, endBy, lateBy, pairBy, NoneBeats}
-use Rattle.promises.specs.Promise.{Covered, PlanOrders, Judged, BoundAnswered, kept, unkept}
+use Rattle.promises.specs.Vocabulary.{told, saidCount, saidPair, saidJudged, listed, ReaderOrder, endBy, lateBy, pairBy, NoneBeats, EndsSooner, LessLate}
+use Rattle.promises.specs.Promise.{Covered, PlanOrders, NamesSooner, ListsLess, Judged, BoundAnswered, kept, unkept}
 use Rattle.promises.proofs.Listed.{signed-back, plans-back, First, first-beating, mem-elem, elem-mem, nth-mem, later-ends}
 
 module _ (g : Planning) (s : Sound g) where
@@ -93,44 +93,58 @@ module _ (g : Planning) (s : Sound g) where
   attained : (p : Pair) → List·Memᴰ p defined → (order : List ℕ) × ReaderOrder g order × (pairBy g order ≡ p)
   attained p m = let u = s .promise .belongs p .0 m .0 in (u .0, u .1 .0, u .1 .1)
 
+  le-trans : {a b c : ℤ} → a ≤ℤ b → b ≤ℤ c → a ≤ℤ c
+  le-trans {a} {b} {c} h k = record { le = →leZ a c (omega (arith, leZ→ a b (h .le), leZ→ b c (k .le))) }
+
+  lt-trans : {a b c : ℤ} → a ≤ℤ b → b <ℤ c → a <ℤ c
+  lt-trans {a} {b} {c} h k = record { lt = →ltZ a c (omega (arith, leZ→ a b (h .le), ltZ→ b c (k .lt))) }
+
+  lt-le : {a b : ℤ} → a <ℤ b → a ≤ℤ b
+  lt-le {a} {b} h = record { le = →leZ a b (omega (arith, ltZ→ a b (h .lt))) }
+
+  -- A listed plan that covers an order, at its place on the list.
+  record CoveredBy (other : List ℕ) : Type 0 where
+    at : ℕ
+    plan : Pair
+    is-there : getElem? defined at ≡ some plan
+    ends : plan .end ≤ endBy g other
+    lates : plan .late ≤ℤ lateBy g other
+
+  covered-by : (other : List ℕ) → ReaderOrder g other → CoveredBy other
+  covered-by other o =
+      let u = s .promise .cover other o in
+      let m = mem-elem defined (u .1) in
+      record { at = m .0; plan = u .0; is-there = m .1; ends = u .2; lates = u .3 }
+
   -- The pair of a posting, against the list.
   module _ (posting : List ℕ) where
     abbrev own : Pair
     own = pairBy g posting
 
-    -- An order that ends no later and is no later at worst: the plan that covers it, with its place on the list.
-    under : (other : List ℕ) → ReaderOrder g other → endBy g other ≤ own .end → lateBy g other ≤ℤ own .late →
-        (j : ℕ) × (p : Pair) × (getElem? defined j ≡ some p) × (p .end ≤ endBy g other) × (p .late ≤ℤ lateBy g other)
-    under other o e l = let u = s .promise .cover other o in let m = mem-elem defined (u .1) in (m .0, u .0, m .1, u .2, u .3)
+    -- What covers an order that beats the posting beats it too.
+    covered-beats : (other : List ℕ) (u : CoveredBy other) → Beats (pairBy g other) own → Beats (u .plan) own
+    covered-beats other u b =
+        record { ends = omega (arith, u .ends, b .ends); lates = le-trans (u .lates) (b .lates); less = go (b .less) }
+      where
+        go : (endBy g other < own .end) ⊎ (lateBy g other <ℤ own .late) → (u .plan .end < own .end) ⊎ (u .plan .late <ℤ own .late)
+        go (inl h) = inl (omega (arith, u .ends))
+        go (inr h) = inr (lt-trans (u .lates) h)
 
-    abbrev Sooner : Type 0
-    Sooner = (other : List ℕ) × ReaderOrder g other × (endBy g other < endBy g posting) × (lateBy g other ≤ℤ lateBy g posting)
+    sooner-beats : (h : EndsSooner g posting) → Beats (pairBy g (h .other)) own
+    sooner-beats h = record { ends = omega (arith, h .ends); lates = h .lates; less = inl (h .ends) }
 
-    abbrev LessLate : Type 0
-    LessLate = (other : List ℕ) × ReaderOrder g other × (endBy g other ≤ endBy g posting) × (lateBy g other <ℤ lateBy g posting)
+    less-beats : (h : LessLate g posting) → Beats (pairBy g (h .other)) own
+    less-beats h = record { ends = h .ends; lates = lt-le (h .lates); less = inr (h .lates) }
 
-    le-trans : {a b c : ℤ} → a ≤ℤ b → b ≤ℤ c → a ≤ℤ c
-    le-trans {a} {b} {c} h k = record { le = →leZ a c (omega (arith, leZ→ a b (h .le), leZ→ b c (k .le))) }
-
-    lt-trans : {a b c : ℤ} → a ≤ℤ b → b <ℤ c → a <ℤ c
-    lt-trans {a} {b} {c} h k = record { lt = →ltZ a c (omega (arith, leZ→ a b (h .le), ltZ→ b c (k .lt))) }
-
-    lt-le : {a b : ℤ} → a <ℤ b → a ≤ℤ b
-    lt-le {a} {b} h = record { le = →leZ a b (omega (arith, ltZ→ a b (h .lt))) }
+    -- If none of the list beats the posting, none beats it at all.
+    none-at-all : First 1 defined own none → (other : List ℕ) → ReaderOrder g other → ¬ Beats (pairBy g other) own
+    none-at-all f other o b =
+        let u = covered-by other o in
+        f (u .plan) (elem-mem defined (u .at) (u .plan) (u .is-there)) (covered-beats other u b)
 
     -- By the first listed plan that beats it.
     unbeaten-by : (o : Option ℕ) → First 1 defined own o → (orZero o ≡ 0) ↔ NoneBeats g own
-    unbeaten-by none f = (λ e other o b. covered-by other o b, λ h. refl)
-      where
-        covered-by : (other : List ℕ) → ReaderOrder g other → ¬ Beats (pairBy g other) own
-        covered-by other o b =
-            let u = s .promise .cover other o in
-            f (u .0) (u .1) (record { ends = omega (arith, u .2, b .ends); lates = le-trans (u .3) (b .lates); less = less (b .less) })
-          where
-            less : (endBy g other < own .end) ⊎ (lateBy g other <ℤ own .late) →
-                (s .promise .cover other o .0 .end < own .end) ⊎ (s .promise .cover other o .0 .late <ℤ own .late)
-            less (inl l) = let u = s .promise .cover other o in inl (omega (arith, u .2))
-            less (inr l) = let u = s .promise .cover other o in inr (lt-trans (u .3) l)
+    unbeaten-by none f = (λ e. none-at-all f, λ h. refl)
     unbeaten-by (some k) (j, e, p, at, b, least) = (
       λ z. absurd (never z),
       λ h. let u = attained p (elem-mem defined j p at) in absurd (h (u .0) (u .1) (subst (λ (q : Pair). Beats q own) (sym (u .2)) b)),
@@ -139,76 +153,56 @@ module _ (g : Planning) (s : Sound g) where
         never : k ≡ 0 → ⊥
         never z = omega arith
 
-    sooner-by : (o : Option ℕ) → First 1 defined own o → Sooner ↔ ((p : Pair) × (nth defined (orZero o) ≡ some p) × (p .end < endBy g posting))
+    sooner-by : (o : Option ℕ) → First 1 defined own o → EndsSooner g posting ↔ NamesSooner g defined posting (orZero o)
     unfolding nth
     sooner-by none f = (
-      λ h. let u = under (h .0) (h .1) (omega (arith, h .2)) (h .3) in
-          absurd (f (u .1) (elem-mem defined (u .0) (u .1) (u .2)) (record {
-            ends = omega (arith, u .3, h .2);
-            lates = le-trans (u .4) (h .3);
-            less = inl (omega (arith, u .3, h .2));
-          })),
-      λ h. absurd (Option·none-ne-some (h .0) (h .1)),
+      λ h. absurd (none-at-all f (h .other) (h .whole) (sooner-beats h)),
+      λ h. absurd (Option·none-ne-some (h .plan) (h .is-named)),
     )
     sooner-by (some k) (j, e, p, at, b, least) = (
-      λ h. let u = under (h .0) (h .1) (omega (arith, h .2)) (h .3) in
-          let l = least (u .0) (u .1) (u .2) (record {
-            ends = omega (arith, u .3, h .2);
-            lates = le-trans (u .4) (h .3);
-            less = inl (omega (arith, u .3, h .2));
-          }) in
-          let n = later-ends defined (s .promise .rising) j (u .0) p (u .1) at (u .2) l in
-          (p, at-k, omega (arith, n, u .3, h .2)),
+      λ h. let u = covered-by (h .other) (h .whole) in
+          let l = least (u .at) (u .plan) (u .is-there) (covered-beats (h .other) u (sooner-beats h)) in
+          let n = later-ends defined (s .promise .rising) j (u .at) p (u .plan) at (u .is-there) l in
+          record { plan = p; is-named = at-k; ends = omega (arith, n, u .ends, h .ends) },
       λ h. let u = attained p (elem-mem defined j p at) in
-          let same : p ≡ h .0 = Option·some-injective p (h .0) (sym at-k ∙ h .1) in (
-            u .0,
-            u .1,
-            omega (arith, ap (λ (q : Pair). q .end) (u .2), ap (λ (q : Pair). q .end) same, h .2),
-            subst (λ (q : Pair). q .late ≤ℤ own .late) (sym (u .2)) (b .lates),
-          ),
+          let same : p ≡ h .plan = Option·some-injective p (h .plan) (sym at-k ∙ h .is-named) in
+          record {
+            other = u .0;
+            whole = u .1;
+            ends = omega (arith, ap (λ (q : Pair). q .end) (u .2), ap (λ (q : Pair). q .end) same, h .ends);
+            lates = subst (λ (q : Pair). q .late ≤ℤ own .late) (sym (u .2)) (b .lates);
+          },
     )
       where
         at-k : nth defined k ≡ some p
         at-k = let next : k ≡ suc j = omega arith in ap (nth defined) next ∙ at
 
-    less-late-by : (o : Option ℕ) → First 1 defined own o → LessLate ↔
-        ((k : ℕ) × (p : Pair) × (1 ≤ orZero o) × (orZero o ≤ k) × (nth defined k ≡ some p) × (p .end ≤ endBy g posting) ×
-        (p .late <ℤ lateBy g posting))
+    less-late-by : (o : Option ℕ) → First 1 defined own o → LessLate g posting ↔ ListsLess g defined posting (orZero o)
     less-late-by o f = (
-      λ h. there h (under (h .0) (h .1) (h .2) (lt-le (h .3))) o f,
+      there o f,
       λ h.
-          let u = attained (h .1) (nth-mem defined (h .0) (h .1) (h .4)) in (
-            u .0,
-            u .1,
-            omega (arith, ap (λ (q : Pair). q .end) (u .2), h .5),
-            subst (λ (q : Pair). q .late <ℤ own .late) (sym (u .2)) (h .6),
-          ),
+          let u = attained (h .plan) (nth-mem defined (h .number) (h .plan) (h .is-listed)) in
+          record {
+            other = u .0;
+            whole = u .1;
+            ends = omega (arith, ap (λ (q : Pair). q .end) (u .2), h .ends);
+            lates = subst (λ (q : Pair). q .late <ℤ own .late) (sym (u .2)) (h .lates);
+          },
     )
       where
-        there : (h : LessLate) →
-            (j : ℕ) × (p : Pair) × (getElem? defined j ≡ some p) × (p .end ≤ endBy g (h .0)) × (p .late ≤ℤ lateBy g (h .0)) →
-            (o : Option ℕ) → First 1 defined own o →
-            (k : ℕ) × (p : Pair) × (1 ≤ orZero o) × (orZero o ≤ k) × (nth defined k ≡ some p) × (p .end ≤ endBy g posting) ×
-            (p .late <ℤ lateBy g posting)
-        there h u none f = absurd (f (u .1) (elem-mem defined (u .0) (u .1) (u .2)) (record {
-          ends = omega (arith, u .3, h .2);
-          lates = lt-le (lt-trans (u .4) (h .3));
-          less = inr (lt-trans (u .4) (h .3));
-        }))
-        there h u (some k) (j, e, p, at, b, least) =
-            let l = least (u .0) (u .1) (u .2) (record {
-              ends = omega (arith, u .3, h .2);
-              lates = lt-le (lt-trans (u .4) (h .3));
-              less = inr (lt-trans (u .4) (h .3));
-            }) in (
-              suc (u .0),
-              u .1,
-              omega arith,
-              omega arith,
-              unfold nth in u .2,
-              omega (arith, u .3, h .2),
-              lt-trans (u .4) (h .3),
-            )
+        there : (o : Option ℕ) → First 1 defined own o → LessLate g posting → ListsLess g defined posting (orZero o)
+        there none f h = absurd (none-at-all f (h .other) (h .whole) (less-beats h))
+        there (some k) (j, e, p, at, b, least) h =
+            let u = covered-by (h .other) (h .whole) in
+            let l = least (u .at) (u .plan) (u .is-there) (covered-beats (h .other) u (less-beats h)) in
+            record {
+              number = suc (u .at);
+              plan = u .plan;
+              from-named = (omega arith, omega arith);
+              is-listed = unfold nth in u .is-there;
+              ends = omega (arith, u .ends, h .ends);
+              lates = lt-trans (u .lates) (h .lates);
+            }
 
     judged-defined : Judged g defined posting (saidJudged own (orZero (firstBeating 1 defined own)))
     judged-defined =

@@ -29,7 +29,7 @@ use Rattle.results.specs.Results.{written, planWords, orZero}
 use Rattle.calls.specs.Answers.{Said, saidNo}
 use Rattle.calls.specs.Calls.{Outcome, gives, nth, Planning, planningOf}
 use Rattle.promises.specs.Vocabulary.{saidCount, saidPair, saidJudged, saidAt, Refuses, listed, ReaderOrder, endBy, lateBy, pairBy}
-use Rattle.promises.specs.Vocabulary.{list, bound, plan, verdict, place, words, NoneBeats, Accepts}
+use Rattle.promises.specs.Vocabulary.{list, bound, plan, verdict, place, words, NoneBeats, EndsSooner, LessLate, Accepts}
 use Rattle.promises.specs.Table.{Turned, ListTurned, BoundTurned, PlanTurned, VerdictTurned, RowTurned}
 
 -- # 1. The lent memory
@@ -129,6 +129,20 @@ module _ (planning : Planning) (L : List Pair) where
       (order : List ℕ) × (planning .orders (p .late) ≡ some order) ×
       Attains (planning .job) (planning .minute) (planning .left) order p × (plan k c ≡ gives (saidPair p) (written order c))
 
+  -- A plan that a verdict names, and that ends sooner than the posted order; a listed plan from the named one on that is less late.
+  pub record NamesSooner (posted : List ℕ) (named : ℕ) : Type 0 where
+    pub plan : Pair
+    pub is-named : nth L named ≡ some plan
+    pub ends : plan .end < endBy planning posted
+
+  pub record ListsLess (posted : List ℕ) (named : ℕ) : Type 0 where
+    pub number : ℕ
+    pub plan : Pair
+    pub from-named : (1 ≤ named) × (named ≤ number)
+    pub is-listed : nth L number ≡ some plan
+    pub ends : plan .end ≤ endBy planning posted
+    pub lates : plan .late <ℤ lateBy planning posted
+
   -- The verdict on a posting that is an order of the rows.
   pub record Judged (posted : List ℕ) (v : Said) : Type 0 where
     -- It tells the posting's own end and worst lateness ..
@@ -137,15 +151,10 @@ module _ (planning : Planning) (L : List Pair) where
     pub unbeaten : (v .count ≡ 0) ↔ NoneBeats planning (pairBy planning posted)
     -- The auditor's question: another order ends sooner without making the worst transcript later exactly if the verdict names a plan
     -- whose end is smaller.
-    pub sooner : ((other : List ℕ) × ReaderOrder planning other × (endBy planning other < endBy planning posted) ×
-        (lateBy planning other ≤ℤ lateBy planning posted)) ↔
-        ((p : Pair) × (nth L (v .count) ≡ some p) × (p .end < endBy planning posted))
+    pub sooner : EndsSooner planning posted ↔ NamesSooner posted (v .count)
     -- Likewise the other way about: another order is less late at worst without ending later exactly if some listed plan is, the one that
     -- the verdict names or one after it.
-    pub less-late : ((other : List ℕ) × ReaderOrder planning other × (endBy planning other ≤ endBy planning posted) ×
-        (lateBy planning other <ℤ lateBy planning posted)) ↔
-        ((k : ℕ) × (p : Pair) × (1 ≤ v .count) × (v .count ≤ k) × (nth L k ≡ some p) × (p .end ≤ endBy planning posted) ×
-        (p .late <ℤ lateBy planning posted))
+    pub less-late : LessLate planning posted ↔ ListsLess posted (v .count)
 
 -- A bound into a buffer c of one word for each row. Either an order is given: the one defined, with every row once, which keeps the bound
 -- and ends no later than any that does. Or it is refused as unkept, and no order keeps it.

@@ -6,7 +6,7 @@ use mathlib.Core.List.{List}
 use mathlib.Core.Logic.{_⊎_}
 use lib.ListN.{length}
 use lib.IntN.{ℤ, pos}
-use lib.Signed.{_<ℤ_}
+use lib.Signed.{_≤ℤ_, _<ℤ_}
 use Rattle.schedule.specs.declared.Row.{Row}
 use Rattle.schedule.specs.declared.Profile.{Profile}
 use Rattle.schedule.specs.declared.Profile.the-variants.{Ordering, FirstCome}
@@ -84,6 +84,19 @@ module _ (planning : Planning) where
   -- No order of the rows beats the pair: ends no later and is no later at worst, one of them less.
   abbrev pub NoneBeats : Pair → Type 0
   NoneBeats p = (other : List ℕ) → ReaderOrder other → ¬ Beats (pairBy other) p
+
+  -- Another order ends sooner than the posted one without making the worst transcript later; or is less late at worst without ending later.
+  pub record EndsSooner (posted : List ℕ) : Type 0 where
+    pub other : List ℕ
+    pub whole : ReaderOrder other
+    pub ends : endBy other < endBy posted
+    pub lates : lateBy other ≤ℤ lateBy posted
+
+  pub record LessLate (posted : List ℕ) : Type 0 where
+    pub other : List ℕ
+    pub whole : ReaderOrder other
+    pub ends : endBy other ≤ endBy posted
+    pub lates : lateBy other <ℤ lateBy posted
 
 -- Two rows disagree if one has the smaller due and also the smaller spare: due minus release minus length, signed.
 abbrev pub Tighter : Row → Row → Type 0
