@@ -17,12 +17,12 @@ value-of-requires c κs = search needs
 
 returns : tie.Need-returns
 unfolding classOf
-returns c = rw (← c .before .before .before .word-at .ensures, ← c .before .before .kind-of .ensures, eq-eqb _ _ (c .before .if1 .taken))
+returns c = rw (← c .before .before .before .word-at .ensures, ← c .before .before .kind-of .ensures, eq-eqb _ 0 (c .before .if1 .taken))
     (cc)
 
 returns-2 : tie.Need-returns-2
 unfolding classOf
-returns-2 c = rw (← c .before .before .word-at .ensures, ← c .before .kind-of .ensures, ne-eqb _ _ (c .if1 .left))
+returns-2 c = rw (← c .before .before .word-at .ensures, ← c .before .kind-of .ensures, ne-eqb _ 0 (c .if1 .left))
 
 pub class-of-spec : {M : Type 1} → statement M
 class-of-spec = tie.close (tie.spec word-at-requires kind-of-requires value-of-requires returns returns-2)

@@ -1,5 +1,6 @@
 -- `next_block` meets its contract: block one, and where a lateness of it is above the bound, block two from the same desk.
 -- Assumes nothing.
+use native.Mathlib.Omega.{arith}
 use Rattle.search.proofs.next_block.Statement.{statement}
 use Rattle.search.proofs.next_block.Tie as tie
 use Rattle.search.proofs.Picked.{first-mem, second-mem, torn-first, torn-second}
@@ -35,7 +36,7 @@ returns c = λ rest g torn.
     let p = c .before .before .before .before .before .before .before .pre in
     let q = c .before .before .before .before .picks .ensures _ _ _ (p .1 .0) (g .stands) (g .late) in
     let m = first-mem _ _ _ (p .1 .0) _ _ g _ (q .0) (torn-first _ _ _ (p .1 .0) _ _ g _ _ (q .0) (q .1) torn) in
-    stepped-one _ _ _ _ rest _ _ _ (q .0) _ _ (c .before .before .block-on .ensures rest g m) (c .if1 .taken)
+    stepped-one _ _ _ _ rest _ _ _ (q .0) _ _ (c .before .before .block-on .ensures rest g m) (omega (arith, c .if1 .taken))
 
 block-on-requires-2 : tie.Need-block-on-requires-2
 block-on-requires-2 c κs =
