@@ -50,7 +50,7 @@ module _ (g : Planning) (s : Sound g) where
       (signed-back (lateBy g (u .0)) (omega (arith, h)) (omega (arith, l)))
 
   -- The plans in a buffer are those of the definition: what holds of these holds of them.
-  listed-same : (b : List ℕ) → 2 * length (g .left) ≤ length b → listed (told saidList (listOutcome g b)) ≡ defined
+  pub listed-same : (b : List ℕ) → 2 * length (g .left) ≤ length b → listed (told saidList (listOutcome g b)) ≡ defined
   unfolding written
   listed-same b wide = ap listed (list-front b wide) ∙ plans-back defined (drop (length (planWords defined)) b) word-back
 

@@ -1,0 +1,6 @@
+pub mod InputWords
+pub mod FirstWords
+pub mod Naming
+pub mod Standing
+pub mod Choosing
+pub mod Plans

@@ -1,0 +1,5 @@
+pub mod Input
+pub mod Printing
+pub mod Shown
+pub mod FirstWords
+pub mod Parts

@@ -1,0 +1,51 @@
+-- What the crate's parts hold.
+-- Rests on: Printing.
+use Prim.Native.Nat.{ℕ, zero, suc, _+_, _*_, _≤_, _<_}
+use mathlib.Core.Path.{_≡_}
+use mathlib.Core.List.{List, [], map}
+use mathlib.Core.Option.{some}
+use lib.ListN.{length, take, getD, replicate}
+use Rattle.schedule.specs.Limits.{mostRows, rowPlaces}
+use Rattle.results.specs.Results.{signed}
+use Rattle.calls.specs.declared.ListAnswer.the-variants.{Plans}
+use Rattle.calls.specs.Calls.{gives, nth, listCall, boundCall}
+use Rattle.calls.specs.Lines.{Line, Printed, refusal, listing, printed}
+use Rattle.planner.specs.Promise.{orderingRule}
+
+-- The bytes of a sheet.
+abbrev pub sheetBytes : ℕ
+sheetBytes = 750000
+
+-- The first n places of a buffer hold a list of n numbers.
+pub record Counted (n : ℕ) (buffer list : List ℕ) : Type 0 where
+  pub few : n ≤ length buffer
+  pub size : n ≡ length (take n buffer)
+  pub holds : take n buffer ≡ list
+
+-- The call for the list answered so many plans, and wrote them into a buffer of 512 words.
+abbrev pub Answered : (book : List ℕ) (count : ℕ) (plans : List ℕ) → Type 0
+Answered book count plans = (b : List ℕ) × (length b ≡ 512) × (gives (Plans count) plans ≡ listCall orderingRule book b)
+
+-- The lines of a book's plans.
+abbrev pub planned : Printed → List Line
+planned (refusal n p) = []
+planned (listing n ls) = ls
+
+abbrev pub linesOf : List ℕ → List Line
+linesOf book = planned (printed orderingRule book)
+
+-- The order numbers of the order for a bound, which the call writes into a buffer of one word for each row.
+abbrev pub orderNumbers : (book numbers : List ℕ) (rows late : ℕ) → List ℕ
+orderNumbers book numbers rows late = map (λ i. getD numbers i 0) (boundCall orderingRule book (signed late) (replicate rows 0) .buffer)
+
+abbrev pub lineFor : (book numbers : List ℕ) (rows end late : ℕ) → Line
+lineFor book numbers rows end late = record { end = end; late = signed late; numbers = orderNumbers book numbers rows late }
+
+-- A book is listed: its plans stand in a buffer, and each has its line.
+pub record Listed (book numbers : List ℕ) (rows count : ℕ) (plans : List ℕ) : Type 0 where
+  pub few : rows ≤ mostRows
+  pub fits : count ≤ mostRows
+  pub places : length numbers ≡ rowPlaces
+  pub size : length plans ≡ 512
+  pub counted : length (linesOf book) ≡ count
+  pub each : (k : ℕ) → k < count → nth (linesOf book) (suc k) ≡ some (lineFor book numbers rows (getD plans (2 * k) 0) (getD plans (2 * k + 1) 0))

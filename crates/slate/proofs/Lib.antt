@@ -1,5 +1,0 @@
-pub mod InputWords
-pub mod Bytes
-pub mod Naming
-pub mod Standing
-pub mod Choosing
