@@ -13,9 +13,10 @@ use Rattle.refusals.specs.declared.Tested.the-variants.{Passed, Refused}
 use Rattle.book.specs.declared.Table.{Table}
 use Rattle.book.specs.declared.Reading.{Reading}
 use Rattle.row_reader.specs.declared.RowRead.the-variants as read
-use Rattle.row_reader.specs.RowWords.{numbersOf, rowTests, rowOf, rowReadOf}
+use Rattle.row_reader.specs.RowWords.{numbersOf, rowTests, rowOf}
+use Rattle.row_reader.specs.Contracts.{rowReadOf}
 use Rattle.book.specs.Rows.{accepted, dayOf, refusedOr, endStands, endTests, triedRows, readRows}
-use Rattle.book.specs.Book.{tableOf, noDay, tableRows, readingOf, unlessRefused}
+use Rattle.book.specs.Tables.{tableOf, noDay, tableRows, readingOf, unlessRefused}
 use Rattle.refusals.proofs.Tests.{never}
 use Rattle.row_reader.proofs.Tests.{row-fits}
 use Rattle.book.proofs.Tables.{Filled, filled-start, filled-size, filled-on, Column, column-start, column-on, pushed, pushed-rows, unless-refused-is}

@@ -13,7 +13,8 @@ use Rattle.refusals.specs.declared.Tested.the-variants.{Passed, Refused}
 use Rattle.book.specs.declared.Table.{Table}
 use Rattle.book.specs.declared.Reading.{Reading}
 use Rattle.book.specs.Rows.{Contents, refused, accepted}
-use Rattle.book.specs.Book.{headTests, readWords, tableOf, noDay, tableRows, readingOf}
+use Rattle.book.specs.Book.{headTests, readWords}
+use Rattle.book.specs.Tables.{tableOf, noDay, tableRows, readingOf}
 use Rattle.book.proofs.Tables.{table-rows}
 use Rattle.book.proofs.Whole.{AllRanged, bookRows, whole-words}
 

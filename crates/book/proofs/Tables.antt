@@ -15,7 +15,7 @@ use Rattle.refusals.specs.declared.Tested.the-variants.{Passed, Refused}
 use Rattle.book.specs.declared.Table.{Table}
 use Rattle.row_reader.specs.RowWords.{numbersOf}
 use Rattle.book.specs.Rows.{accepted, dayOf, refusedOr}
-use Rattle.book.specs.Book.{tableOf, tableRows, readingOf, unlessRefused}
+use Rattle.book.specs.Tables.{tableOf, tableRows, readingOf, unlessRefused}
 
 -- The rows of a table.
 pub rows-length : (t : Table) → t .count ≤ mostRows → length (t .rows) ≡ mostRows → length (tableRows t) ≡ t .count

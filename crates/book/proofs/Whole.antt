@@ -19,8 +19,11 @@ use Rattle.refusals.specs.declared.Tested.{Tested}
 use Rattle.refusals.specs.declared.Tested.the-variants.{Passed, Refused}
 use Rattle.refusals.specs.Refusals.{byTail}
 use Rattle.words.specs.Words.{kind, value, word}
-use Rattle.row_reader.specs.Due.{margin, classOf, Margined, dueBy, ClassDue}
-use Rattle.row_reader.specs.RowWords.{numbersOf, rowTests, lengthOf, rowOf}
+use Rattle.row_reader.specs.Due.{classOf, dueBy}
+use Rattle.row_reader.specs.Contracts.{Margined}
+use Rattle.row_reader.specs.Margins.{margin, ClassDue}
+use Rattle.row_reader.specs.RowWords.{numbersOf, rowTests, rowOf}
+use Rattle.row_reader.specs.NearestMinute.{lengthOf}
 use Rattle.book.specs.Rows.{Contents, refused, accepted, dayOf, refusedOr, endStands, endTests, triedRows, readRows}
 use Rattle.book.specs.Book.{headTests, readWords}
 use Rattle.refusals.proofs.Tests.{never, then-right, not-refused}

@@ -9,7 +9,8 @@ use Rattle.schedule.specs.declared.Row.{Row}
 use Rattle.schedule.specs.Rows.{Day}
 use Rattle.refusals.specs.declared.Tested.{Tested}
 use Rattle.refusals.specs.declared.Tested.the-variants.{Passed, Refused}
-use Rattle.refusals.specs.Refusals.{byFull, byCount, byTail, refuseIf, _then_}
+use Rattle.refusals.specs.Refusals.{byFull, byCount, byTail}
+use Rattle.refusals.specs.Tests.{refuseIf, _then_}
 use Rattle.words.specs.Words.{kind, value, word}
 use Rattle.row_reader.specs.RowWords.{numbersOf, rowTests, rowOf, openRowWords}
 

@@ -35,7 +35,8 @@ use Rattle.calls.specs.declared.OrderAnswer.{OrderAnswer}
 use Rattle.calls.specs.declared.OrderAnswer.the-variants as order-answer
 use Rattle.calls.specs.declared.VerdictAnswer.{VerdictAnswer}
 use Rattle.calls.specs.declared.VerdictAnswer.the-variants as verdict-answer
-use Rattle.calls.specs.Calls.{Outcome, gives, nth, Planning, planningIn, judgedOf, listOutcome, orderOutcome, planOutcome}
+use Rattle.calls.specs.Calls.{judgedOf, listOutcome, orderOutcome, planOutcome}
+use Rattle.calls.specs.Planning.{Outcome, gives, nth, Planning, planningIn}
 use Rattle.calls.specs.Calls.{verdictOutcome}
 use Rattle.calls.specs.Plannable.{Plannable}
 use Rattle.calls.proofs.CallLaws.{list-narrow, list-is, plan-is, plan-unlisted, verdict-no, verdict-is, order-narrow, order-some}

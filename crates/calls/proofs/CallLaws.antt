@@ -20,7 +20,8 @@ use Rattle.results.specs.Results.{written, planWords}
 use Rattle.calls.specs.declared.ListAnswer.the-variants as list-answer
 use Rattle.calls.specs.declared.OrderAnswer.the-variants as order-answer
 use Rattle.calls.specs.declared.VerdictAnswer.the-variants as verdict-answer
-use Rattle.calls.specs.Calls.{gives, nth, Planning, planningOf, judgedOf, listOutcome, orderOutcome, planOutcome, verdictOutcome}
+use Rattle.calls.specs.Calls.{judgedOf, listOutcome, orderOutcome, planOutcome, verdictOutcome}
+use Rattle.calls.specs.Planning.{gives, nth, Planning, planningOf}
 use Rattle.calls.specs.Calls.{listCall, boundCall, planCall, verdictCall}
 
 -- A refused book turns every call down.

@@ -27,7 +27,8 @@ use Rattle.search.proofs.Signs.{late-lowers}
 use Rattle.results.specs.Results.{written, planWords}
 use Rattle.calls.specs.declared.ListAnswer.the-variants as list-answer
 use Rattle.calls.specs.declared.OrderAnswer.the-variants as order-answer
-use Rattle.calls.specs.Calls.{gives, nth, Planning, planningIn, judgedOf, listOutcome, orderOutcome, planOutcome, verdictOutcome}
+use Rattle.calls.specs.Calls.{judgedOf, listOutcome, orderOutcome, planOutcome, verdictOutcome}
+use Rattle.calls.specs.Planning.{gives, nth, Planning, planningIn}
 use Rattle.calls.specs.Plannable.{Plannable}
 use Rattle.calls.proofs.CallLaws.{list-narrow, list-is, plan-is, plan-unlisted, verdict-no, verdict-is, order-narrow, order-some}
 use Rattle.calls.proofs.CallLaws.{order-none}

@@ -21,7 +21,8 @@ use Rattle.readers.specs.Reads.{readBy, Gives}
 use Rattle.readers.specs.Accepted.{AcceptedDay}
 use Rattle.readers.proofs.Accepted.{accepted-day}
 use Rattle.readers.proofs.Readings.{given-passed}
-use Rattle.calls.specs.Calls.{Planning, planningIn, listOutcome, orderOutcome, planOutcome, verdictOutcome, listCall, boundCall}
+use Rattle.calls.specs.Calls.{listOutcome, orderOutcome, planOutcome, verdictOutcome, listCall, boundCall}
+use Rattle.calls.specs.Planning.{Planning, planningIn}
 use Rattle.calls.specs.Calls.{planCall, verdictCall}
 use Rattle.calls.specs.Plannable.{Plannable}
 use Rattle.calls.proofs.CallLaws.{list-of, bound-of, plan-of, verdict-of}

@@ -1,18 +1,14 @@
 -- The whole outcome of each offered call: from what it is told and lent to its answer and the buffer's contents at exit.
 -- Refusals in their sequence: those of the book, 10, 11, 9, 12. Rests on: the readers, postings, result words, the schedule's profiles.
-use Prim.Native.Nat.{ℕ, zero, suc, _*_}
+use Prim.Native.Nat.{ℕ, _*_}
 use mathlib.Core.Bool.{true, false}
 use mathlib.Core.List.{List}
 use mathlib.Core.Option.{Option, none, some}
 use lib.Dec.{ltb}
-use lib.ListN.{length, getElem?}
+use lib.ListN.{length}
 use lib.IntN.{ℤ}
-use Rattle.theory.specs.Jobs.{Job}
-use Rattle.schedule.specs.declared.Profile.{Profile}
-use Rattle.schedule.specs.Rows.{countFrom, Day, jobs}
 use Rattle.schedule.specs.Desk.{Pair, pairOf}
 use Rattle.schedule.specs.Plans.{firstBeating}
-use Rattle.schedule.specs.Profiles.{plansBy, orderBy}
 use Rattle.refusals.specs.declared.Tested.the-variants as tested
 use Rattle.refusals.specs.Refusals.{byNarrow, byUnlisted, byUnkept}
 use Rattle.book.specs.Rows.{refused, accepted}
@@ -20,46 +16,13 @@ use Rattle.readers.specs.declared.Terms.{Terms}
 use Rattle.readers.specs.Reads.{readBy}
 use Rattle.postings.specs.Posting.{postingTests}
 use Rattle.results.specs.Results.{written, planWords}
+use Rattle.calls.specs.Planning.{Outcome, gives, nth, Planning, planningOf}
 use Rattle.calls.specs.declared.ListAnswer.{ListAnswer}
 use Rattle.calls.specs.declared.ListAnswer.the-variants as list-answer
 use Rattle.calls.specs.declared.OrderAnswer.{OrderAnswer}
 use Rattle.calls.specs.declared.OrderAnswer.the-variants as order-answer
 use Rattle.calls.specs.declared.VerdictAnswer.{VerdictAnswer}
 use Rattle.calls.specs.declared.VerdictAnswer.the-variants as verdict-answer
-
--- What a call gives: its answer, and the result buffer after it.
-pub record Outcome (A : Type 0) : Type 0 where
-  pub answer : A
-  pub buffer : List ℕ
-
-abbrev pub gives : {A : Type 0} → A → List ℕ → Outcome A
-gives a b = record { answer = a; buffer = b }
-
--- The k-th of a list, counted from 1.
-unfoldable pub nth {ℓ} : {A : Type ℓ} → List A → ℕ → Option A
-nth xs zero = none
-nth xs (suc k) = getElem? xs k
-
--- What is planned: what planning sees of each row number, the desk's minute, the rows left, and their list of plans and order for a bound.
-pub record Planning : Type 0 where
-  pub job : ℕ → Job
-  pub minute : ℕ
-  pub left : List ℕ
-  pub plans : List Pair
-  pub orders : ℤ → Option (List ℕ)
-
--- The rows 1 to n from the minute t on, by a profile; and the rows of a day from its free minute on.
-abbrev pub planningIn : Profile → (ℕ → Job) → (t n : ℕ) → Planning
-planningIn profile job t n = record {
-  job = job;
-  minute = t;
-  left = countFrom 1 n;
-  plans = plansBy profile job t (countFrom 1 n);
-  orders = orderBy profile job t (countFrom 1 n);
-}
-
-abbrev pub planningOf : Profile → Day → Planning
-planningOf profile day = planningIn profile (jobs day) (day .free) (length (day .rows))
 
 -- A pair and the first listed plan that beats it, or unbeaten.
 unfoldable pub judgedOf : Pair → Option ℕ → VerdictAnswer

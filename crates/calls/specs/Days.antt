@@ -6,7 +6,7 @@ use mathlib.Core.List.{List, [], _∷_, map, List·Memᴰ, List·Memᴰ·head, L
 use lib.ListN.{length}
 use lib.IntN.{ℤ}
 use Rattle.schedule.specs.declared.Class.the-variants.{Of}
-use Rattle.row_reader.specs.RowWords.{lengthOf as lengthFor}
+use Rattle.row_reader.specs.NearestMinute.{lengthOf as lengthFor}
 use Rattle.book.specs.Rows.{Contents, accepted}
 use Rattle.grammar.specs.Books as books
 use Rattle.grammar.specs.Books.{Entry}
@@ -19,7 +19,8 @@ use Rattle.calls.specs.declared.ListAnswer.the-variants as list-answer
 use Rattle.calls.specs.declared.OrderAnswer.{OrderAnswer}
 use Rattle.calls.specs.declared.OrderAnswer.the-variants as order-answer
 use Rattle.calls.specs.declared.VerdictAnswer.{VerdictAnswer}
-use Rattle.calls.specs.Calls.{Outcome, gives, listCall, boundCall, planCall, verdictCall}
+use Rattle.calls.specs.Calls.{listCall, boundCall, planCall, verdictCall}
+use Rattle.calls.specs.Planning.{Outcome, gives}
 use Rattle.calls.specs.Lines.{Line, Printed, printed}
 
 -- A row of a book as the days give it: number, release, pages and due, or class.

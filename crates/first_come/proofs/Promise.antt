@@ -20,7 +20,8 @@ use Rattle.readers.proofs.OneDay.{one-day}
 use Rattle.results.specs.Results.{written, planWords}
 use Rattle.calls.specs.declared.ListAnswer.the-variants as list-answer
 use Rattle.calls.specs.Answers.{saidList}
-use Rattle.calls.specs.Calls.{gives, planningOf, listOutcome}
+use Rattle.calls.specs.Calls.{listOutcome}
+use Rattle.calls.specs.Planning.{gives, planningOf}
 use Rattle.calls.proofs.CallLaws.{list-of, list-narrow, list-is}
 use Rattle.promises.specs.Vocabulary.{told, list, Accepts}
 use Rattle.promises.specs.Promise.{Property1, Property2, Property3}

@@ -8,9 +8,11 @@ use lib.ListN.{length}
 use borrow.Author.Tests.{lt-leb, le-ltb, eqb-true, eq-eqb, not-false}
 use Rattle.refusals.specs.declared.Tested.{Tested}
 use Rattle.refusals.specs.declared.Tested.the-variants.{Passed}
-use Rattle.refusals.specs.Refusals.{byCut, byKind, byRange, refuseIf, _then_}
+use Rattle.refusals.specs.Refusals.{byCut, byKind, byRange}
+use Rattle.refusals.specs.Tests.{refuseIf, _then_}
 use Rattle.refusals.proofs.Tests.{then-left, then-right, not-refused}
-use Rattle.words.specs.Words.{kind, value, word, outside, kindTests, wordTests}
+use Rattle.words.specs.Words.{kind, value, word}
+use Rattle.words.specs.WordTests.{outside, kindTests, wordTests}
 use Rattle.words.proofs.Words.{Word}
 
 -- Tests in sequence pass where each does; one test where it is false.

@@ -11,8 +11,10 @@ use borrow.Author.Tests.{leb-true, leb-false, eqb-true, eqb-false}
 use Rattle.schedule.specs.Limits.{latestMinute, latestDue, mostRows}
 use Rattle.schedule.specs.declared.Class.the-variants.{None, Of}
 use Rattle.schedule.specs.Rows.{stands}
-use Rattle.refusals.specs.Refusals.{byFull, byTwice, _then_}
-use Rattle.words.specs.Words.{word, kindTests, wordTests}
+use Rattle.refusals.specs.Refusals.{byFull, byTwice}
+use Rattle.refusals.specs.Tests.{_then_}
+use Rattle.words.specs.Words.{word}
+use Rattle.words.specs.WordTests.{kindTests, wordTests}
 use Rattle.words.specs.Words.{kind as kindOf, value as valueOf}
 use Rattle.row_reader.specs.Due.{classOf, testsBy, dueTests}
 use Rattle.row_reader.specs.RowWords.{numberTests, rowTests}

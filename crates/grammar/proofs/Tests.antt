@@ -11,8 +11,10 @@ use lib.Seq.{getD-drop}
 use borrow.Author.Tests.{leb-true, leb-false, eqb-true, eqb-false, not-true, not-false}
 use Rattle.refusals.specs.declared.Tested.{Tested}
 use Rattle.refusals.specs.declared.Tested.the-variants.{Passed, Refused}
-use Rattle.refusals.specs.Refusals.{byCut, byKind, byFull, refuseIf, _then_}
-use Rattle.words.specs.Words.{word, kindTests}
+use Rattle.refusals.specs.Refusals.{byCut, byKind, byFull}
+use Rattle.refusals.specs.Tests.{refuseIf, _then_}
+use Rattle.words.specs.Words.{word}
+use Rattle.words.specs.WordTests.{kindTests}
 use Rattle.words.specs.Words.{kind as kindOf}
 use Rattle.grammar.specs.Words.{Wants, kindAt, Due, kind, FirstWrong}
 use Rattle.grammar.proofs.Order.{look, Clear, first-wrong}

@@ -10,7 +10,8 @@ use lib.ListN.{length, drop}
 use borrow.Author.Tests.{ltb-true, ltb-false, eqb-true, eqb-false}
 use Rattle.schedule.proofs.Tests.{neither}
 use Rattle.refusals.specs.Refusals.{byRange, byCount}
-use Rattle.words.specs.Words.{word, outside, wordTests}
+use Rattle.words.specs.Words.{word}
+use Rattle.words.specs.WordTests.{outside, wordTests}
 use Rattle.words.specs.Words.{value as valueOf}
 use Rattle.grammar.specs.Words.{Ranged, kindAt, valueAt, EndsAfter, Due, range, FirstWrong}
 use Rattle.grammar.proofs.Order.{look, Clear, first-wrong}

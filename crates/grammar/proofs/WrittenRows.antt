@@ -14,7 +14,8 @@ use Rattle.refusals.specs.Refusals.{byTwice, byFull}
 use Rattle.words.specs.Words.{kind, value}
 use Rattle.words.proofs.Words.{Word}
 use Rattle.row_reader.specs.Due.{classOf, testsBy, dueBy, dueTests, dueOf}
-use Rattle.row_reader.specs.RowWords.{numberTests, rowTests, lengthOf, rowOf}
+use Rattle.row_reader.specs.RowWords.{numberTests, rowTests, rowOf}
+use Rattle.row_reader.specs.NearestMinute.{lengthOf}
 use Rattle.grammar.specs.Books.{Sold, due, class, Entry, wordOf, soldWord, dueBySold, classBySold, rowBy, SoldInRange, EntryInRange}
 use Rattle.grammar.proofs.WordValues.{kind-of, value-of}
 use Rattle.grammar.proofs.PassedWords.{both-pass, test-passes, kind-passes, word-passes}

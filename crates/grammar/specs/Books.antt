@@ -10,8 +10,8 @@ use Rattle.schedule.specs.declared.Row.{Row}
 use Rattle.schedule.specs.declared.Class.{Class}
 use Rattle.schedule.specs.declared.Class.the-variants.{None, Of}
 use Rattle.schedule.specs.Rows.{Day}
-use Rattle.row_reader.specs.Due.{margin}
-use Rattle.row_reader.specs.RowWords.{lengthOf}
+use Rattle.row_reader.specs.Margins.{margin}
+use Rattle.row_reader.specs.NearestMinute.{lengthOf}
 use Rattle.book.specs.Rows.{accepted, dayOf}
 use Rattle.book.specs.Book.{readWords}
 

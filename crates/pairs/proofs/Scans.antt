@@ -11,7 +11,7 @@ use Rattle.schedule.specs.declared.Row.{Row}
 use Rattle.schedule.specs.Rows.{noRow}
 use Rattle.refusals.specs.declared.Tested.{Tested}
 use Rattle.refusals.specs.declared.Tested.the-variants.{Passed, Refused}
-use Rattle.refusals.specs.Refusals.{refuseIf, _then_}
+use Rattle.refusals.specs.Tests.{refuseIf, _then_}
 use Rattle.pairs.specs.Pairs.{someEntry, pairTestsFrom}
 
 -- The scan for an entry: one entry more.

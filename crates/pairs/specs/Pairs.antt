@@ -6,7 +6,7 @@ use mathlib.Core.List.{List, [], _∷_, _++_}
 use Rattle.schedule.specs.declared.Row.{Row}
 use Rattle.refusals.specs.declared.Tested.{Tested}
 use Rattle.refusals.specs.declared.Tested.the-variants.{Passed}
-use Rattle.refusals.specs.Refusals.{refuseIf, _then_, openRefusals}
+use Rattle.refusals.specs.Tests.{refuseIf, _then_, openRefusals}
 
 -- The place of the number word of row k, rows counted from 1. Row 1 begins at word 2, and a row has four words.
 abbrev pub numberWord : ℕ → ℕ

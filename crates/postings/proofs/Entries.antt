@@ -16,7 +16,8 @@ use Rattle.schedule.specs.Rows.{stands}
 use Rattle.schedule.proofs.Tests.{neither}
 use Rattle.schedule.proofs.Stands.{stands-none, stands-more}
 use Rattle.refusals.specs.declared.Tested.the-variants.{Passed, Refused}
-use Rattle.refusals.specs.Refusals.{byNotPosting, refuseIf, _then_}
+use Rattle.refusals.specs.Refusals.{byNotPosting}
+use Rattle.refusals.specs.Tests.{refuseIf, _then_}
 use Rattle.postings.specs.Posting.{entryTests, postingTests}
 
 -- The marks are those of the entries seen.

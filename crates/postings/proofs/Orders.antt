@@ -16,7 +16,8 @@ use Rattle.schedule.proofs.Numbers.{count-range, from-mem, count-once}
 use Rattle.schedule.proofs.Tests.{nor, nor-both, is-false}
 use Rattle.schedule.proofs.Stands.{stands-none, stands-more}
 use Rattle.refusals.specs.declared.Tested.the-variants.{Passed, Refused}
-use Rattle.refusals.specs.Refusals.{byNotPosting, refuseIf}
+use Rattle.refusals.specs.Refusals.{byNotPosting}
+use Rattle.refusals.specs.Tests.{refuseIf}
 use Rattle.schedule.specs.Rows.{stands}
 use Rattle.refusals.proofs.Tests.{then-left, then-right, then-passes, not-refused, Says, if-says, then-says}
 use Rattle.postings.specs.Posting.{entryTests, postingTests}

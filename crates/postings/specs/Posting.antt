@@ -7,7 +7,8 @@ use lib.Dec.{ltb, eqb}
 use lib.ListN.{length}
 use Rattle.refusals.specs.declared.Tested.{Tested}
 use Rattle.refusals.specs.declared.Tested.the-variants.{Passed}
-use Rattle.refusals.specs.Refusals.{byNotPosting, refuseIf, _then_}
+use Rattle.refusals.specs.Refusals.{byNotPosting}
+use Rattle.refusals.specs.Tests.{refuseIf, _then_}
 use Rattle.schedule.specs.Rows.{stands}
 
 -- The first entry that is no row of n, or came before. `seen` came before, `place` is that of the first entry of the list.

@@ -18,7 +18,8 @@ use Rattle.refusals.specs.declared.Tested.the-variants as tested
 use Rattle.postings.specs.Posting.{postingTests}
 use Rattle.results.specs.Results.{written, complement, signed, planWords, orZero}
 use Rattle.calls.specs.Answers.{saidList, saidOrder, saidVerdict}
-use Rattle.calls.specs.Calls.{gives, nth, Planning, judgedOf, listOutcome, orderOutcome, planOutcome, verdictOutcome}
+use Rattle.calls.specs.Calls.{judgedOf, listOutcome, orderOutcome, planOutcome, verdictOutcome}
+use Rattle.calls.specs.Planning.{gives, nth, Planning}
 use Rattle.calls.proofs.Sound.{Sound, posted}
 use Rattle.calls.proofs.CallLaws.{list-is, plan-is, verdict-is, order-some, order-none}
 use Rattle.promises.specs.Vocabulary.{told, saidCount, saidPair, saidJudged, listed, ReaderOrder, endBy, lateBy, pairBy, NoneBeats, EndsSooner, LessLate}

@@ -17,7 +17,8 @@ use Rattle.results.specs.Results.{written, planWords}
 use Rattle.results.proofs.ResultWords.{plan-length}
 use Rattle.grammar.specs.Words.{Wrong, cut, kind, range, twice, full, count, tail}
 use Rattle.calls.specs.Answers.{Said, saidNo, saidList, saidOrder}
-use Rattle.calls.specs.Calls.{Outcome, gives, nth, Planning, listOutcome, orderOutcome, planOutcome}
+use Rattle.calls.specs.Calls.{listOutcome, orderOutcome, planOutcome}
+use Rattle.calls.specs.Planning.{Outcome, gives, nth, Planning}
 use Rattle.calls.proofs.Sound.{Sound}
 use Rattle.calls.proofs.CallLaws.{list-narrow, list-is, plan-is, plan-unlisted, order-narrow, order-some, order-none}
 use Rattle.promises.specs.Vocabulary.{told, saidCount, saidPair}

@@ -33,7 +33,8 @@ use Rattle.row_calls.specs.Places.{placeIn}
 use Rattle.postings.specs.Posting.{postingTests}
 use Rattle.postings.proofs.Orders.{posting-number}
 use Rattle.calls.specs.Answers.{Said, saidNo, saidList, saidOrder, saidVerdict, saidPlace}
-use Rattle.calls.specs.Calls.{nth, Planning, judgedOf, listOutcome, orderOutcome, planOutcome, verdictOutcome}
+use Rattle.calls.specs.Calls.{judgedOf, listOutcome, orderOutcome, planOutcome, verdictOutcome}
+use Rattle.calls.specs.Planning.{nth, Planning}
 use Rattle.calls.proofs.Sound.{Sound}
 use Rattle.calls.proofs.Plans.{nth-in, nth-zero, nth-out}
 use Rattle.calls.proofs.CallLaws.{list-narrow, list-is, plan-is, plan-unlisted, verdict-no, verdict-is, order-narrow, order-some, order-none}

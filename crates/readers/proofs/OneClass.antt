@@ -15,7 +15,7 @@ use Rattle.schedule.specs.Rows.{row, rowNumbers}
 use Rattle.refusals.specs.declared.Tested.the-variants.{Passed}
 use Rattle.pairs.specs.Clashes.{NoneClash}
 use Rattle.pairs.proofs.Clashes.{none-passes}
-use Rattle.row_reader.specs.Due.{ClassDue}
+use Rattle.row_reader.specs.Margins.{ClassDue}
 use Rattle.book.specs.Book.{readWords}
 use Rattle.book.proofs.Whole.{whole-words, by-number}
 use Rattle.readers.specs.Rules.{tighter, disagree, clashBy, numberBy, ruleTests}

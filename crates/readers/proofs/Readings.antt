@@ -8,11 +8,12 @@ use Rattle.schedule.specs.declared.Row.{Row}
 use Rattle.schedule.specs.Rows.{Day}
 use Rattle.refusals.specs.declared.Tested.{Tested}
 use Rattle.refusals.specs.declared.Tested.the-variants.{Passed, Refused}
-use Rattle.refusals.specs.Refusals.{_then_}
+use Rattle.refusals.specs.Tests.{_then_}
 use Rattle.refusals.proofs.Tests.{never}
 use Rattle.book.specs.declared.Reading.{Reading}
 use Rattle.book.specs.Rows.{Contents, refused, accepted}
-use Rattle.book.specs.Book.{readWords, tableOf, tableRows, readingOf}
+use Rattle.book.specs.Book.{readWords}
+use Rattle.book.specs.Tables.{tableOf, tableRows, readingOf}
 use Rattle.book.proofs.Tables.{table-rows}
 use Rattle.rows.specs.declared.Columns.{Columns}
 use Rattle.rows.specs.InColumns.{InColumns}

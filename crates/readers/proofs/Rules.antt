@@ -19,7 +19,8 @@ use Rattle.refusals.proofs.Tests.{never}
 use Rattle.pairs.specs.Columns.{pairClashes}
 use Rattle.pairs.specs.Clashes.{Mutual, NoneClash}
 use Rattle.rows.specs.InColumns.{Within}
-use Rattle.readers.specs.Rules.{spare, tighter, disagree, outlasts, cross, clashBy, secondBy}
+use Rattle.readers.specs.Rules.{spare, tighter, disagree, outlasts, cross, clashBy}
+use Rattle.readers.specs.Seconds.{secondBy}
 use Rattle.readers.proofs.Signed.{ltZ-sums, ltb-same}
 
 and-then : (a b : Bool) → a ≡ true → (a && b) ≡ false → b ≡ false

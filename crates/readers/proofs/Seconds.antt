@@ -15,7 +15,8 @@ use Rattle.schedule.specs.Rows.{row, job}
 use Rattle.schedule.specs.Columns.{columns}
 use Rattle.pairs.specs.Columns.{Columned}
 use Rattle.rows.specs.InColumns.{Within}
-use Rattle.readers.specs.Rules.{clashBy, secondBy}
+use Rattle.readers.specs.Rules.{clashBy}
+use Rattle.readers.specs.Seconds.{secondBy}
 use Rattle.readers.proofs.Rules.{clash-by}
 
 -- The column holds the second numbers of the rows 1 to n.

@@ -8,7 +8,7 @@ use Rattle.schedule.specs.Limits.{mostRows, latestMinute, longestLength, latest
 use Rattle.schedule.specs.declared.Profile.{Profile}
 use Rattle.schedule.specs.Rows.{row, Day, jobs, rowNumbers}
 use Rattle.schedule.specs.Profiles.{Obeys}
-use Rattle.row_reader.specs.Due.{ClassDue}
+use Rattle.row_reader.specs.Margins.{ClassDue}
 use Rattle.book.specs.Rows.{accepted}
 use Rattle.readers.specs.declared.Terms.{Terms}
 use Rattle.readers.specs.Reads.{readBy}

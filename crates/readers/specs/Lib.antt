@@ -1,4 +1,5 @@
 pub mod Rules
+pub mod Seconds
 pub mod Reads
 pub mod Accepted
 pub mod Settled

@@ -1,19 +1,15 @@
 -- The rule of each profile as a test of row pairs: test 8, no two rows disagree; test 13, no two rows cross.
 -- Rests on: the pairs, the schedule's rows and profiles.
-use Prim.Native.Nat.{ℕ, _+_, _-_, _≤_}
+use Prim.Native.Nat.{ℕ, _+_, _-_}
 use mathlib.Core.Bool.{Bool, _&&_, _||_}
-use mathlib.Core.Path.{_≡_}
 use mathlib.Core.List.{List}
 use lib.Dec.{ltb}
 use lib.ListN.{length}
 use lib.IntN.{ℤ, subℕ}
 use lib.Signed.{ltZ}
-use Rattle.theory.specs.Jobs.{Job}
-use Rattle.schedule.specs.Limits.{latestMinute, longestLength}
 use Rattle.schedule.specs.declared.Row.{Row}
 use Rattle.schedule.specs.declared.Profile.{Profile}
 use Rattle.schedule.specs.declared.Profile.the-variants.{Ordering, FirstCome}
-use Rattle.schedule.specs.Rows.{job}
 use Rattle.refusals.specs.declared.Tested.{Tested}
 use Rattle.refusals.specs.Refusals.{byDisorder, byCrossed}
 use Rattle.pairs.specs.Pairs.{pairTests, openPairs}
@@ -51,18 +47,7 @@ numberBy FirstCome = byCrossed
 abbrev pub ruleTests : Profile → List Row → Tested
 ruleTests profile rows = pairTests (clashBy profile) (numberBy profile) rows
 
--- The second number that the rows are compared by, beside the due: the spare, raised by the most that release and length come to, so that
--- none is below 0; or how long before the latest minute the release is.
-unfoldable pub secondBy : Profile → Job → ℕ
-secondBy Ordering j = j .due + (latestMinute + longestLength) - (j .release + j .length)
-secondBy FirstCome j = latestMinute - j .release
-
--- What the profile's test of some rows in columns answers: the test of any rows that have these jobs.
-abbrev pub JobsTested : Profile → (ℕ → Job) → (count : ℕ) → Tested → Type 0
-JobsTested profile jobs count o = (rows : List Row) → length rows ≡ count → ((i : ℕ) → 1 ≤ i → i ≤ count → jobs i ≡ job rows i) →
-    o ≡ ruleTests profile rows
-
 -- Opens every definition of this file and of those that it rests on.
 unfoldable pub openRules : Unit {0}
-unfolding openPairs tighter disagree outlasts cross clashBy numberBy secondBy
+unfolding openPairs tighter disagree outlasts cross clashBy numberBy
 openRules = tt

@@ -7,7 +7,7 @@ use mathlib.Core.Path.{_≡_, refl}
 use lib.Dec.{T}
 use Rattle.refusals.specs.declared.Tested.{Tested}
 use Rattle.refusals.specs.declared.Tested.the-variants.{Passed, Refused}
-use Rattle.refusals.specs.Refusals.{refuseIf, _then_}
+use Rattle.refusals.specs.Tests.{refuseIf, _then_}
 
 -- Two constructors are never equal: `cc` then proves 0 ≡ 1, and all else follows.
 pub never : {P : Type 0} → _≡_ {A = ℕ} 0 1 → P

@@ -1,9 +1,6 @@
--- When a call is turned down: the numbers of the table of refusals, and tests that run one after another.
+-- The numbers of the table of refusals.
 -- Rests on: nothing.
 use Prim.Native.Nat.{ℕ}
-use mathlib.Core.Bool.{Bool, true, false}
-use Rattle.refusals.specs.declared.Tested.{Tested}
-use Rattle.refusals.specs.declared.Tested.the-variants.{Passed, Refused}
 
 -- 1, cut: the book stops where a word is still due.
 abbrev pub byCut : ℕ
@@ -56,19 +53,3 @@ byUnkept = 12
 -- 13, crossed: two rows cross.
 abbrev pub byCrossed : ℕ
 byCrossed = 13
-
--- One test: where it is true, the refusal with its number and its place.
-unfoldable pub refuseIf : Bool → ℕ → ℕ → Tested
-refuseIf true number place = Refused number place
-refuseIf false number place = Passed
-
--- Tests in sequence: the first refusal turns the call down.
-infixr 20 _then_
-unfoldable pub _then_ : Tested → Tested → Tested
-Passed then next = next
-Refused number place then next = Refused number place
-
--- Opens every definition of this file: name it on an `unfolding` line where all is to be computed.
-unfoldable pub openRefusals : Unit {0}
-unfolding refuseIf _then_
-openRefusals = tt

@@ -1,6 +1,6 @@
 // The table of refusals: the number that each has, and tests that run one after another.
 ghost use mathlib.Core.Path.{_≡_};
-ghost use Rattle.refusals.specs.Refusals.{refuseIf, _then_};
+ghost use Rattle.refusals.specs.Tests.{refuseIf, _then_};
 
 // Tests are passed, or a call is refused: the number and the place of the table of refusals.
 pub enum Tested {

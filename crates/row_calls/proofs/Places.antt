@@ -21,7 +21,8 @@ use Rattle.readers.specs.Reads.{readBy, outcomeOf}
 use Rattle.readers.proofs.Accepted.{read-words-gave}
 use Rattle.row_calls.specs.declared.RowPlace.{RowPlace}
 use Rattle.row_calls.specs.declared.RowPlace.the-variants.{At, Refused}
-use Rattle.row_calls.specs.Places.{placeIn, placeCall, rowWordsAt, WordsInside}
+use Rattle.row_calls.specs.Places.{placeIn, placeCall, rowWordsAt}
+use Rattle.row_calls.specs.Contracts.{WordsInside}
 
 -- The book is refused; it has no row of that number; it has one.
 pub place-refused : (x : Contents) (n p k : ℕ) → outcomeOf x ≡ tested.Refused n p → Refused n p ≡ placeIn x k

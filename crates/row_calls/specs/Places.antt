@@ -1,20 +1,17 @@
 -- The calls for a row by its number: the place of its number word, and the stretch of the book that holds its words.
 -- Rests on: the readers, the pairs' number words.
-use Prim.Native.Nat.{ℕ, _+_, _≤_}
+use Prim.Native.Nat.{ℕ}
 use mathlib.Core.Bool.{cond, _||_}
-use mathlib.Core.Path.{_≡_}
 use mathlib.Core.List.{List, []}
 use lib.Dec.{ltb, eqb}
 use lib.ListN.{length, take, drop}
-use Rattle.schedule.specs.Rows.{Day}
-use Rattle.refusals.specs.declared.Tested.{Tested}
 use Rattle.refusals.specs.Refusals.{byUnlisted}
 use Rattle.pairs.specs.Pairs.{numberWord}
 use Rattle.book.specs.Rows.{Contents, refused, accepted}
 use Rattle.readers.specs.declared.Terms.{Terms}
 use Rattle.row_calls.specs.declared.RowPlace.{RowPlace}
 use Rattle.row_calls.specs.declared.RowPlace.the-variants.{At, Refused}
-use Rattle.readers.specs.Reads.{readBy, outcomeOf, openReads}
+use Rattle.readers.specs.Reads.{readBy, openReads}
 
 -- The call for row k: the place of its number word; or the refusal of the book, then unlisted with the count of rows as place.
 unfoldable pub placeIn : Contents → ℕ → RowPlace
@@ -31,15 +28,6 @@ rowWordsAt (Refused n p) book = []
 
 abbrev pub wordsCall : Terms → List ℕ → ℕ → List ℕ
 wordsCall terms book k = rowWordsAt (placeCall terms book k) book
-
--- The four words at a place that was found stand in the book.
-abbrev pub WordsInside : RowPlace → List ℕ → Type 0
-WordsInside f book = (place : ℕ) → f ≡ At place → place + 4 ≤ length book
-
--- What is answered from how the tests came out and the count of rows: the place of row k in any contents that read so.
-abbrev pub PlaceAmong : Tested → (count k : ℕ) → RowPlace → Type 0
-PlaceAmong outcome count k f = (x : Contents) → outcome ≡ outcomeOf x → ((day : Day) → x ≡ accepted day → count ≡ length (day .rows)) →
-    f ≡ placeIn x k
 
 -- Opens every definition of this file and of those that it rests on.
 unfoldable pub openPlaces : Unit {0}

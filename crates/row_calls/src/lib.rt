@@ -1,6 +1,7 @@
 // The calls for a row by its number, of either profile: the place of its number word, and the part of the book that holds its words.
 ghost use mathlib.Core.Path.{_≡_};
-ghost use Rattle.row_calls.specs.Places.{placeCall, rowWordsAt, wordsCall, WordsInside, PlaceAmong};
+ghost use Rattle.row_calls.specs.Places.{placeCall, rowWordsAt, wordsCall};
+ghost use Rattle.row_calls.specs.Contracts.{WordsInside, PlaceAmong};
 use readers::Terms;
 use refusals::Tested;
 

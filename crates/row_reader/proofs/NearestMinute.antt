@@ -6,7 +6,7 @@ use native.Mathlib.Decide.{decLt}
 use native.Mathlib.Omega.{arith}
 use mathlib.Core.Path.{_≡_, refl, ap}
 use Rattle.schedule.specs.Limits.{longestLength}
-use Rattle.row_reader.specs.RowWords.{lengthOf}
+use Rattle.row_reader.specs.NearestMinute.{lengthOf}
 use Rattle.row_reader.specs.NearestMinute.{distance, NearestMinute}
 
 -- What is known of a quotient.

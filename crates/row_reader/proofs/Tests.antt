@@ -15,7 +15,9 @@ use Rattle.refusals.specs.declared.Tested.the-variants.{Passed}
 use Rattle.refusals.proofs.Tests.{never, then-left, then-right, not-refused}
 use Rattle.words.specs.Words.{kind, value, word}
 use Rattle.words.proofs.Words.{Word, word-fits}
-use Rattle.row_reader.specs.Due.{margins, margin, classOf, testsBy, dueTests, Margined, dueBy, dueOf}
+use Rattle.row_reader.specs.Due.{classOf, testsBy, dueTests, dueBy, dueOf}
+use Rattle.row_reader.specs.Contracts.{Margined}
+use Rattle.row_reader.specs.Margins.{margins, margin}
 use Rattle.row_reader.specs.RowWords.{numberTests, rowTests}
 
 -- Bools taken apart.

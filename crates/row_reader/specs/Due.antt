@@ -1,24 +1,16 @@
 -- The due of a row: told by a due word, or worked out from the turnaround class that stands in its place.
--- Rests on: the words. As there, `ws` is the book from `place` on, here from the number word of a row: its word 3 is the one.
-use Prim.Native.Nat.{ℕ, _+_, _<_}
+-- Rests on: the words, Margins. As there, `ws` is the book from `place` on, here from the number word of a row: its word 3 is the one.
+use Prim.Native.Nat.{ℕ, _+_}
 use mathlib.Core.Bool.{cond}
-use mathlib.Core.Path.{_≡_}
-use mathlib.Core.List.{List, [], _∷_}
+use mathlib.Core.List.{List}
 use lib.Dec.{eqb}
-use lib.ListN.{getD}
 use Rattle.schedule.specs.Limits.{latestDue}
-use Rattle.schedule.specs.declared.Row.{Row}
 use Rattle.schedule.specs.declared.Class.{Class}
 use Rattle.schedule.specs.declared.Class.the-variants.{None, Of}
 use Rattle.refusals.specs.declared.Tested.{Tested}
-use Rattle.words.specs.Words.{kind, value, word, wordTests, openWords}
-
--- The margins of the classes 0 to 7, in minutes, and the margin of one class.
-abbrev pub margins : List ℕ
-margins = 60 ∷ 120 ∷ 480 ∷ 1440 ∷ 4320 ∷ 10080 ∷ 20160 ∷ 43200 ∷ []
-
-abbrev pub margin : ℕ → ℕ
-margin c = getD margins c 0
+use Rattle.words.specs.Words.{kind, value, word}
+use Rattle.row_reader.specs.Margins.{margin}
+use Rattle.words.specs.WordTests.{wordTests, openWords}
 
 -- The class of a row: the value of a word of kind 0 in the place of the due word. A word of another kind is no class.
 unfoldable pub classOf : List ℕ → Class
@@ -33,11 +25,6 @@ testsBy (Of c) place ws = wordTests 0 0 7 place ws 3
 abbrev pub dueTests : ℕ → List ℕ → Tested
 dueTests place ws = testsBy (classOf ws) place ws
 
--- A class that has a margin.
-abbrev pub Margined : Class → Type 0
-Margined None = Unit {0}
-Margined (Of c) = c < 8
-
 -- Due: the value of the due word; of a class, release plus length plus margin.
 unfoldable pub dueBy : Class → (release minutes told : ℕ) → ℕ
 dueBy None release minutes told = told
@@ -45,10 +32,6 @@ dueBy (Of c) release minutes told = release + minutes + margin c
 
 abbrev pub dueOf : (release minutes : ℕ) → List ℕ → ℕ
 dueOf release minutes ws = dueBy (classOf ws) release minutes (value (word ws 3))
-
--- The class of a row of the table is one of 0 to 7, and the row is due its length and the class's margin after its release.
-abbrev pub ClassDue : Row → Type 0
-ClassDue r = (c : ℕ) → r .class ≡ Of c → (c < 8) × (r .due ≡ r .release + r .length + margin c)
 
 -- Opens every definition of this file and of those that it rests on.
 unfoldable pub openDue : Unit {0}

@@ -1,3 +1,5 @@
+pub mod Margins
+pub mod NearestMinute
 pub mod Due
 pub mod RowWords
-pub mod NearestMinute
+pub mod Contracts

@@ -1,9 +1,13 @@
 -- The length of a row is its reading time to the nearest minute. The proof is `nearest-minute`, in proofs/NearestMinute.antt.
--- Rests on: RowWords.
-use Prim.Native.Nat.{ℕ, _+_, _-_, _*_, _≤_}
+-- Rests on: the limits.
+use Prim.Native.Nat.{ℕ, _+_, _-_, _*_, _/_, _≤_}
 use mathlib.Core.Path.{_≡_}
 use Rattle.schedule.specs.Limits.{longestLength}
-use Rattle.row_reader.specs.RowWords.{lengthOf}
+
+-- Length: the reading time, pages × 60 divided by pace, to the nearest minute, an exact half going up: half a minute is added, and the part
+-- of a minute that is then over dropped. That this is the nearest minute is `NearestMinute`.
+abbrev pub lengthOf : (pages pace : ℕ) → ℕ
+lengthOf pages pace = (2 * (pages * 60) + pace) / (2 * pace)
 
 -- How far so many minutes are from the reading time, in parts of a minute of which there are `pace`: n minutes have n × pace of them, the
 -- reading time pages × 60. (A difference below 0 is 0: one of the two is.)

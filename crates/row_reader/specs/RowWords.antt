@@ -1,6 +1,6 @@
--- The words of a row: the tests 4 and 5, the length of a row, and the row that the words make.
--- Rests on: the words, Due. As there, `ws` is the book from `place` on.
-use Prim.Native.Nat.{ℕ, _+_, _*_, _/_}
+-- The words of a row: the tests 4 and 5, and the row that the words make.
+-- Rests on: the words, NearestMinute, Due. As there, `ws` is the book from `place` on.
+use Prim.Native.Nat.{ℕ}
 use mathlib.Core.List.{List, map}
 use lib.Dec.{leb}
 use lib.ListN.{length}
@@ -8,11 +8,11 @@ use Rattle.schedule.specs.Limits.{latestMinute, mostRows}
 use Rattle.schedule.specs.declared.Row.{Row}
 use Rattle.schedule.specs.Rows.{stands}
 use Rattle.refusals.specs.declared.Tested.{Tested}
-use Rattle.refusals.specs.declared.Tested.the-variants.{Passed, Refused}
-use Rattle.refusals.specs.Refusals.{byTwice, byFull, refuseIf, _then_}
-use Rattle.words.specs.Words.{value, word, kindTests, wordTests}
-use Rattle.row_reader.specs.declared.RowRead.{RowRead}
-use Rattle.row_reader.specs.declared.RowRead.the-variants as read
+use Rattle.refusals.specs.Refusals.{byTwice, byFull}
+use Rattle.refusals.specs.Tests.{refuseIf, _then_}
+use Rattle.words.specs.Words.{value, word}
+use Rattle.words.specs.WordTests.{kindTests, wordTests}
+use Rattle.row_reader.specs.NearestMinute.{lengthOf}
 use Rattle.row_reader.specs.Due.{dueTests, classOf, dueOf, openDue}
 
 -- The order numbers of the rows read so far.
@@ -34,11 +34,6 @@ rowTests numbers place ws =
     wordTests 5 1 2000 place ws 2 then
     dueTests place ws
 
--- Length: the reading time, pages × 60 divided by pace, to the nearest minute, an exact half going up: half a minute is added, and the part
--- of a minute that is then over dropped. That this is the nearest minute is NearestMinute.
-abbrev pub lengthOf : (pages pace : ℕ) → ℕ
-lengthOf pages pace = (2 * (pages * 60) + pace) / (2 * pace)
-
 -- A row of the table: number, release, length, due, and the class or that it has none.
 abbrev pub rowOf : (pace : ℕ) → List ℕ → Row
 rowOf pace ws =
@@ -51,12 +46,7 @@ rowOf pace ws =
       class = classOf ws;
     }
 
--- What the row reader answers: the row whose tests are passed, or the refusal.
-unfoldable pub rowReadOf : Tested → Row → RowRead
-rowReadOf Passed r = read.Whole r
-rowReadOf (Refused n p) r = read.Refused n p
-
 -- Opens every definition of this file and of those that it rests on.
 unfoldable pub openRowWords : Unit {0}
-unfolding openDue stands numberTests rowTests rowReadOf
+unfolding openDue stands numberTests rowTests
 openRowWords = tt

@@ -5,7 +5,7 @@ ghost use Prim.Native.Nat.{_≤_, _<_};
 ghost use lib.ListN.{length, getD};
 ghost use Rattle.schedule.specs.Limits.{mostRows};
 ghost use Rattle.schedule.specs.Rows.{noRow};
-ghost use Rattle.book.specs.Book.{tableRows};
+ghost use Rattle.book.specs.Tables.{tableRows};
 ghost use Rattle.rows.specs.InColumns.{InColumns};
 use book::Table;
 use schedule::Desk;

@@ -14,14 +14,16 @@ use Rattle.refusals.proofs.Tests.{never}
 use Rattle.book.specs.declared.Table.{Table}
 use Rattle.book.specs.declared.Reading.{Reading}
 use Rattle.book.specs.Rows.{Contents, refused, accepted}
-use Rattle.book.specs.Book.{readWords, tableOf, tableRows, readingOf}
+use Rattle.book.specs.Book.{readWords}
+use Rattle.book.specs.Tables.{tableOf, tableRows, readingOf}
 use Rattle.book.proofs.Tables.{table-rows}
 use Rattle.readers.specs.Reads.{readBy}
 use Rattle.readers.proofs.Accepted.{read-words-gave, accepted-day}
 use Rattle.calls.specs.declared.ListAnswer.{ListAnswer}
 use Rattle.calls.specs.declared.ListAnswer.the-variants as list-answer
 use Rattle.calls.specs.Answers.{saidList}
-use Rattle.calls.specs.Calls.{Outcome, gives, planningOf, listCall}
+use Rattle.calls.specs.Calls.{listCall}
+use Rattle.calls.specs.Planning.{Outcome, gives, planningOf}
 use Rattle.calls.specs.Lines.{refusal, printed}
 use Rattle.calls.proofs.CallLaws.{list-refused, list-of, list-is}
 use Rattle.promises.specs.Vocabulary.{told, listed}

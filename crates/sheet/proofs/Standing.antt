@@ -22,12 +22,13 @@ use Rattle.schedule.proofs.Signed.{sub-cases}
 use Rattle.book.specs.declared.Table.{Table}
 use Rattle.schedule.specs.declared.Profile.the-variants.{Ordering}
 use Rattle.book.specs.Rows.{accepted}
-use Rattle.book.specs.Book.{tableRows}
+use Rattle.book.specs.Tables.{tableRows}
 use Rattle.readers.specs.Reads.{readBy}
 use Rattle.readers.proofs.Accepted.{accepted-day}
 use Rattle.results.specs.Results.{written, signed, plansIn}
 use Rattle.calls.specs.declared.OrderAnswer.{OrderAnswer}
-use Rattle.calls.specs.Calls.{Outcome, nth, planningOf, boundCall}
+use Rattle.calls.specs.Calls.{boundCall}
+use Rattle.calls.specs.Planning.{Outcome, nth, planningOf}
 use Rattle.calls.specs.Lines.{Line, listing, numbersOf, lineOf, printed}
 use Rattle.calls.proofs.CallLaws.{bound-of, order-some}
 use Rattle.promises.proofs.Listed.{nth-mem}

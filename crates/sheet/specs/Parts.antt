@@ -8,7 +8,8 @@ use lib.ListN.{length, take, getD, replicate}
 use Rattle.schedule.specs.Limits.{mostRows, rowPlaces}
 use Rattle.results.specs.Results.{signed}
 use Rattle.calls.specs.declared.ListAnswer.the-variants.{Plans}
-use Rattle.calls.specs.Calls.{gives, nth, listCall, boundCall}
+use Rattle.calls.specs.Calls.{listCall, boundCall}
+use Rattle.calls.specs.Planning.{gives, nth}
 use Rattle.calls.specs.Lines.{Line, Printed, refusal, listing, printed}
 use Rattle.planner.specs.Promise.{orderingRule}
 

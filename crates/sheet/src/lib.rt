@@ -6,7 +6,7 @@ ghost use Prim.Native.Nat.{ℕ, _+_, _*_, _≤_, _<_};
 ghost use lib.ListN.{length, getD, replicate};
 ghost use Rattle.schedule.specs.Limits.{mostRows, rowPlaces};
 ghost use Rattle.schedule.specs.Rows.{row};
-ghost use Rattle.book.specs.Book.{tableRows};
+ghost use Rattle.book.specs.Tables.{tableRows};
 ghost use Rattle.results.specs.Results.{signed};
 ghost use Rattle.calls.specs.Calls.{boundCall};
 ghost use Rattle.calls.specs.Lines.{printed};

@@ -10,9 +10,11 @@ use lib.ListN.{length}
 use borrow.Author.Tests.{ltb-false, leb-false}
 use Rattle.refusals.specs.declared.Tested.{Tested}
 use Rattle.refusals.specs.declared.Tested.the-variants.{Passed}
-use Rattle.refusals.specs.Refusals.{byRange, refuseIf, _then_}
+use Rattle.refusals.specs.Refusals.{byRange}
+use Rattle.refusals.specs.Tests.{refuseIf, _then_}
 use Rattle.refusals.proofs.Tests.{never, then-left, then-right, not-refused, Says, if-says, then-says}
-use Rattle.words.specs.Words.{value, word, outside, kindTests, wordTests}
+use Rattle.words.specs.Words.{value, word}
+use Rattle.words.specs.WordTests.{outside, kindTests, wordTests}
 
 neither : (a b : Bool) → (a || b) ≡ false → (a ≡ false) × (b ≡ false)
 neither true b e = never (cc)

@@ -1,7 +1,8 @@
 // The words of a book: kind and value, and the tests 1 to 3 at a word.
 ghost use mathlib.Core.Path.{_≡_};
 ghost use Prim.Native.Nat.{_≤_, _<_};
-ghost use Rattle.words.specs.Words.{lastStart, kind, value, word, outside, kindTests, wordTests};
+ghost use Rattle.words.specs.Words.{kind, value, word};
+ghost use Rattle.words.specs.WordTests.{lastStart, outside, kindTests, wordTests};
 use refusals::Tested;
 
 // The top three bits of a word, and the low 29.

@@ -12,9 +12,10 @@ use borrow.Author.Needs.{needs}
 use Rattle.schedule.specs.Limits.{mostRows}
 use Rattle.refusals.specs.declared.Tested.{Tested}
 use Rattle.refusals.specs.declared.Tested.the-variants.{Passed}
-use Rattle.row_reader.specs.RowWords.{rowTests, rowOf, rowReadOf}
+use Rattle.row_reader.specs.RowWords.{rowTests, rowOf}
+use Rattle.row_reader.specs.Contracts.{rowReadOf}
 use Rattle.book.specs.Rows.{endStands, endTests}
-use Rattle.book.specs.Book.{tableOf, unlessRefused}
+use Rattle.book.specs.Tables.{tableOf, unlessRefused}
 use Rattle.row_reader.proofs.Tests.{row-fits}
 use Rattle.book.proofs.Tables.{part-end}
 use Rattle.book.proofs.Reached.{Reached, reached-start, reached-end, reached-refused, reached-room, reached-on, whole-tests, whole-row, refused-tests}

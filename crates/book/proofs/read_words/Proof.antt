@@ -5,7 +5,7 @@ use native.Mathlib.Omega.{arith}
 use mathlib.Core.Path.{_≡_, refl, sym, ap, _∙_}
 use borrow.Author.Needs.{needs}
 use Rattle.words.specs.Words.{value, word}
-use Rattle.book.specs.Book.{readingOf}
+use Rattle.book.specs.Tables.{readingOf}
 use Rattle.book.proofs.Tests.{HeadFit, head-fits}
 use Rattle.book.proofs.Whole.{bookRows}
 use Rattle.book.proofs.Readings.{head-refused, head-passed}

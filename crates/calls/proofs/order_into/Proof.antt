@@ -7,7 +7,7 @@ use lib.IntN.{ℤ}
 use Rattle.schedule.specs.Offset.{lowered}
 use Rattle.schedule.proofs.SignedWords.{lowered-word}
 use Rattle.calls.specs.declared.OrderAnswer.the-variants as order-answer
-use Rattle.calls.specs.Calls.{gives}
+use Rattle.calls.specs.Planning.{gives}
 use Rattle.calls.proofs.Answered.{order-short, order-unkept, order-kept}
 use Rattle.calls.proofs.order_into.Statement.{statement}
 use Rattle.calls.proofs.order_into.Tie as tie

@@ -4,7 +4,7 @@ use denote.Ref.{now}
 use native.Mathlib.Omega.{arith}
 use borrow.Author.Needs.{needs}
 use Rattle.schedule.specs.Limits.{latestMinute, longestLength, latestDue}
-use Rattle.book.specs.Book.{tableRows}
+use Rattle.book.specs.Tables.{tableRows}
 use Rattle.book.proofs.Readings.{Fits, read-fits}
 use Rattle.readers.proofs.Readings.{gives}
 use Rattle.readers.proofs.read.Statement.{statement}

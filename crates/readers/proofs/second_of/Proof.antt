@@ -1,7 +1,7 @@
 -- `second_of` meets its contract: each profile has its second number.
 -- Assumes nothing.
 use borrow.Author.Needs.{needs}
-use Rattle.readers.specs.Rules.{secondBy}
+use Rattle.readers.specs.Seconds.{secondBy}
 use Rattle.readers.proofs.second_of.Statement.{statement}
 use Rattle.readers.proofs.second_of.Tie as tie
 

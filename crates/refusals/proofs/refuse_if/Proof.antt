@@ -1,6 +1,6 @@
 -- `refuse_if` meets its contract: both branches give the definition's case.
 -- Assumes nothing.
-use Rattle.refusals.specs.Refusals.{refuseIf}
+use Rattle.refusals.specs.Tests.{refuseIf}
 use Rattle.refusals.proofs.refuse_if.Statement.{statement}
 use Rattle.refusals.proofs.refuse_if.Tie as tie
 

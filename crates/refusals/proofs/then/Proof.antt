@@ -1,7 +1,7 @@
 -- `then` meets its contract: both variants give the definition's case.
 -- Assumes nothing.
 use borrow.Author.Needs.{needs}
-use Rattle.refusals.specs.Refusals.{_then_}
+use Rattle.refusals.specs.Tests.{_then_}
 use Rattle.refusals.proofs.then.Statement.{statement}
 use Rattle.refusals.proofs.then.Tie as tie
 

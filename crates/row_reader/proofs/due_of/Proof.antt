@@ -3,7 +3,8 @@
 use native.Mathlib.Omega.{arith}
 use mathlib.Core.Path.{subst}
 use borrow.Author.Needs.{needs}
-use Rattle.row_reader.specs.Due.{Margined, dueBy}
+use Rattle.row_reader.specs.Due.{dueBy}
+use Rattle.row_reader.specs.Contracts.{Margined}
 use Rattle.row_reader.proofs.Tests.{margin-most}
 use Rattle.row_reader.proofs.due_of.Statement.{statement}
 use Rattle.row_reader.proofs.due_of.Tie as tie

@@ -4,7 +4,7 @@ use denote.Ref.{now}
 use mathlib.Core.Path.{sym, _∙_}
 use lib.ListN.{take}
 use borrow.Author.Needs.{needs}
-use Rattle.row_reader.specs.RowWords.{rowReadOf}
+use Rattle.row_reader.specs.Contracts.{rowReadOf}
 use Rattle.row_reader.proofs.Tests.{row-fits}
 use Rattle.row_reader.proofs.read_row.Statement.{statement}
 use Rattle.row_reader.proofs.read_row.Tie as tie

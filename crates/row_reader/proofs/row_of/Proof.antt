@@ -5,8 +5,9 @@ use Prim.Native.Nat.{ℕ}
 use mathlib.Core.Path.{_≡_, refl, _∙_, ap, sym, subst}
 use borrow.Author.Needs.{needs}
 use Rattle.words.specs.Words.{value, word}
-use Rattle.row_reader.specs.Due.{classOf, Margined}
-use Rattle.row_reader.specs.RowWords.{lengthOf}
+use Rattle.row_reader.specs.Due.{classOf}
+use Rattle.row_reader.specs.Contracts.{Margined}
+use Rattle.row_reader.specs.NearestMinute.{lengthOf}
 use Rattle.row_reader.proofs.NearestMinute.{length-most}
 use Rattle.row_reader.proofs.row_of.Statement.{statement}
 use Rattle.row_reader.proofs.row_of.Tie as tie

@@ -9,7 +9,7 @@ use lib.ListN.{take, getD}
 use lib.Seq.{getD-take, take-take}
 use Rattle.schedule.specs.declared.Row.{Row}
 use Rattle.schedule.specs.Rows.{noRow}
-use Rattle.book.specs.Book.{tableRows}
+use Rattle.book.specs.Tables.{tableRows}
 use Rattle.sheet.proofs.Naming.{Numbers, no-numbers, more-numbers}
 use Rattle.sheet.proofs.numbers_of.Statement.{statement}
 use Rattle.sheet.proofs.numbers_of.Tie as tie

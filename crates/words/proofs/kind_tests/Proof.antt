@@ -2,7 +2,7 @@
 -- Assumes nothing.
 use mathlib.Core.Path.{refl}
 use borrow.Author.Needs.{needs}
-use Rattle.words.specs.Words.{kindTests}
+use Rattle.words.specs.WordTests.{kindTests}
 use Rattle.words.proofs.kind_tests.Statement.{statement}
 use Rattle.words.proofs.kind_tests.Tie as tie
 

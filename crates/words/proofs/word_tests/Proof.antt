@@ -2,7 +2,7 @@
 -- Assumes nothing.
 use mathlib.Core.Path.{refl}
 use borrow.Author.Needs.{needs}
-use Rattle.words.specs.Words.{wordTests}
+use Rattle.words.specs.WordTests.{wordTests}
 use Rattle.words.proofs.word_tests.Statement.{statement}
 use Rattle.words.proofs.word_tests.Tie as tie
 

@@ -1,7 +1,7 @@
 -- `Table::empty` meets its contract: 256 places with no row.
 -- Assumes nothing.
 use borrow.Author.Needs.{needs}
-use Rattle.book.specs.Book.{tableOf}
+use Rattle.book.specs.Tables.{tableOf}
 use Rattle.book.proofs.Table.empty.Statement.{statement}
 use Rattle.book.proofs.Table.empty.Tie as tie
 
