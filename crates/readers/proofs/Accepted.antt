@@ -53,7 +53,6 @@ accepted-day terms book day e =
       some-row = w .some;
       few-rows = w .few;
       ranged = λ i m. let r = by-number rows (w .ranged) i m in (r .release, r .least, r .most, r .due);
-      class-dues = λ i m. by-number rows (w .ranged) i m .class;
       limits = limits rows (all-limited rows (w .ranged));
     }
 

@@ -1,14 +1,13 @@
 -- What is known of an accepted day: its rows keep the rule of the profile, and every number is in its range. The proof is `accepted-day`,
--- in proofs/Accepted.antt. Rests on: Reads, the book's Due, the schedule's rows and profiles.
+-- in proofs/Accepted.antt. Rests on: Reads, the schedule's rows and profiles.
 use Prim.Native.Nat.{ℕ, _≤_, _<_}
 use mathlib.Core.Path.{_≡_}
 use mathlib.Core.List.{List, List·Memᴰ}
 use lib.ListN.{length}
 use Rattle.schedule.specs.Limits.{mostRows, latestMinute, longestLength, latestDue}
 use Rattle.schedule.specs.declared.Profile.{Profile}
-use Rattle.schedule.specs.Rows.{row, Day, jobs, rowNumbers}
+use Rattle.schedule.specs.Rows.{Day, jobs, rowNumbers}
 use Rattle.schedule.specs.Profiles.{Obeys}
-use Rattle.row_reader.specs.Margins.{ClassDue}
 use Rattle.book.specs.Rows.{accepted}
 use Rattle.readers.specs.declared.Terms.{Terms}
 use Rattle.readers.specs.Reads.{readBy}
@@ -24,8 +23,6 @@ pub record AcceptedDay (profile : Profile) (day : Day) : Type 0 where
   -- Release, length and due of each row. Length lies between 1 and 30,000.
   pub ranged : (i : ℕ) → List·Memᴰ i (rowNumbers day) →
       (jobs day i .release ≤ latestMinute) × (1 ≤ jobs day i .length) × (jobs day i .length ≤ longestLength) × (jobs day i .due ≤ latestDue)
-  -- A row that has a class is due by it.
-  pub class-dues : (i : ℕ) → List·Memᴰ i (rowNumbers day) → ClassDue (row (day .rows) i)
   -- The same limits for every number, also one that no row has.
   pub limits : (i : ℕ) → (jobs day i .release ≤ latestMinute) × (jobs day i .length ≤ longestLength) × (jobs day i .due ≤ latestDue)
 
