@@ -18,8 +18,8 @@ module _ (before bytes sheet : List ℕ) (at i : ℕ) where
       rw (n, m, take-suc-set sheet (at + i) (getD bytes i 0) a, take-suc bytes i 0 b, e, append-assoc)
       refl
 
-  pub all-put : i ≡ length bytes → length sheet ≡ length before → at + i ≤ length sheet → take (at + i) sheet ≡ take at before ++ take i bytes →
-      Added (at + i) at (length bytes) before bytes sheet
+  pub all-put : i ≡ length bytes → length sheet ≡ length before → at + i ≤ length sheet →
+      take (at + i) sheet ≡ take at before ++ take i bytes → Added (at + i) at (length bytes) before bytes sheet
   all-put e l f h = record {
     few = omega arith;
     room = l;
@@ -32,7 +32,8 @@ none-put before bytes at = ap (λ (n : ℕ). take n before) (add-zero at) ∙ sy
 
 -- Nothing is added.
 pub none-added : (at : ℕ) (before : List ℕ) → at ≤ length before → Added at at 0 before [] before
-none-added at before h = record { few = omega arith; room = refl; size = sym (length-take-le at before h); holds = sym (append-nil (take at before)) }
+none-added at before h =
+    record { few = omega arith; room = refl; size = sym (length-take-le at before h); holds = sym (append-nil (take at before)) }
 
 -- One part is added, then another.
 pub then-added : {r s at m n : ℕ} {before between after a b : List ℕ} →

@@ -1,6 +1,6 @@
--- Laws of printed numbers: the digits that the toolchain writes, by their fewest count, are those of the definition; and how many there are.
+-- Laws of printed numbers: the fewest digits, which the toolchain writes, are those of the definition; and how many there are.
 -- Assumes nothing.
-use Prim.Native.Nat.{ℕ, zero, suc, _+_, _-_, _*_, _/_, _%_, _^_, _≤_, _<_}
+use Prim.Native.Nat.{ℕ, zero, suc, _+_, _-_, _/_, _%_, _^_, _≤_, _<_}
 use mathlib.Core.Path.{_≡_, refl, ap, sym, _∙_}
 use mathlib.Core.List.{List, [], _∷_, _++_, append-assoc, append-nil}
 use native.Mathlib.Omega.{arith}
@@ -22,23 +22,27 @@ glyph-is d h = rw (lt-ltb d 10 h) refl
 least : (n k : ℕ) → Fewest 10 1 n (suc (suc k)) → 10 ^ suc k ≤ n
 least n k f = let e : suc (suc k) - 1 ≡ suc k = omega arith in (rw e at (f .2 (omega arith)))
 
+tenth-below : (n k : ℕ) → n < 10 ^ suc (suc k) → n / 10 < 10 ^ suc k
+tenth-below n k h = div-lt-iff-lt-mul {k = 10} {x = n} {y = 10 ^ suc k} (omega arith) .1 (omega (arith, h, pow-suc 10 (suc k)))
+
+tenth-above : (n k : ℕ) → 10 ^ suc k ≤ n → 10 ^ k ≤ n / 10
+tenth-above n k h = le-div-iff-mul-le {k = 10} {x = 10 ^ k} {y = n} (omega arith) .1 (omega (arith, h, pow-suc 10 k))
+
 fewest-tenth : (n k : ℕ) → Fewest 10 1 n (suc (suc k)) → Fewest 10 1 (n / 10) (suc k)
 fewest-tenth n k f =
-    let below : n / 10 < 10 ^ suc k = div-lt-iff-lt-mul {k = 10} {x = n} {y = 10 ^ suc k} (omega arith) .1 (omega (arith, f .1, pow-suc 10 (suc k))) in
-    let above : 10 ^ k ≤ n / 10 = le-div-iff-mul-le {k = 10} {x = 10 ^ k} {y = n} (omega arith) .1 (omega (arith, least n k f, pow-suc 10 k)) in
     let e : suc k - 1 ≡ k = omega arith in
-    (omega arith, below, λ h. (rw e above))
+    (omega arith, tenth-below n k (f .1), λ h. (rw e (tenth-above n k (least n k f))))
 
 digits-in : (k steps n : ℕ) → n < steps → Fewest 10 1 n (suc k) → digits 10 (suc k) n ≡ digitsIn steps n
 unfolding digitsIn
 digits-in k zero n h f = let z : ⊥ = omega arith in absurd z
 digits-in zero (suc steps) n h f =
     let l : n < 10 = omega (arith, f .1) in
-    rw (lt-ltb n 10 l, mod-eq-of-lt l, glyph-is n l) refl
+    rw (digitsIn, lt-ltb n 10 l, mod-eq-of-lt l, glyph-is n l) refl
 digits-in (suc k) (suc steps) n h f =
     let l : 10 ≤ n = le-trans (pow-le-pow-right {n = 10} (omega arith) {i = 1} {j = suc k} (omega arith)) (least n k f) in
     let r = digits-in k steps (n / 10) (omega (arith, div-lt-self {n = n} {k = 10} (omega arith) (omega arith))) (fewest-tenth n k f) in
-    rw (le-ltb n 10 l, r, glyph-is (n % 10) (mod-lt n (omega arith))) refl
+    rw (digitsIn, le-ltb n 10 l, r, glyph-is (n % 10) (mod-lt n (omega arith))) refl
 
 -- What `io::decimal` writes.
 pub decimal-is : (n k : ℕ) → Fewest 10 1 n k → digits 10 k n ≡ decimal n
@@ -50,11 +54,11 @@ decimal-is n (suc k) f = digits-in k (suc n) n (omega arith) f
 short-more : (steps : ℕ) → ((d n : ℕ) → n < 10 ^ suc d → length (digitsIn steps n) ≤ suc d) →
     (d n : ℕ) → n < 10 ^ suc d → Dec (n < 10) → length (digitsIn (suc steps) n) ≤ suc d
 unfolding digitsIn
-short-more steps f d n h (yes l) = rw (lt-ltb n 10 l) (omega arith)
+short-more steps f d n h (yes l) = rw (digitsIn, lt-ltb n 10 l) (omega arith)
 short-more steps f zero n h (no l) = let z : ⊥ = omega arith in absurd z
 short-more steps f (suc d) n h (no l) =
-    let below : n / 10 < 10 ^ suc d = div-lt-iff-lt-mul {k = 10} {x = n} {y = 10 ^ suc d} (omega arith) .1 (omega (arith, h, pow-suc 10 (suc d))) in
-    rw (le-ltb n 10 (omega arith)) (omega (arith, f d (n / 10) below, length-append (digitsIn steps (n / 10)) ((48 + n % 10) ∷ [])))
+    let more = length-append (digitsIn steps (n / 10)) ((48 + n % 10) ∷ []) in
+    rw (digitsIn, le-ltb n 10 (omega arith)) (omega (arith, f d (n / 10) (tenth-below n d h), more))
 
 short-in : (steps d n : ℕ) → n < 10 ^ suc d → length (digitsIn steps n) ≤ suc d
 unfolding digitsIn
@@ -85,7 +89,9 @@ numbers-more : (ns : List ℕ) (n : ℕ) → numberFields ns ++ field (32 ∷ []
 unfolding numberFields
 numbers-more [] n = sym (append-nil (field (32 ∷ []) n))
 numbers-more (m ∷ ns) n =
-    append-assoc (field (32 ∷ []) m) (numberFields ns) (field (32 ∷ []) n) ∙ ap (λ (l : List ℕ). field (32 ∷ []) m ++ l) (numbers-more ns n)
+    append-assoc (field (32 ∷ []) m) (numberFields ns) (field (32 ∷ []) n) ∙
+    ap (λ (l : List ℕ). field (32 ∷ []) m ++ l) (numbers-more ns n)
 
-pub next-number : (ns : List ℕ) (k : ℕ) → k < length ns → numberFields (take k ns) ++ field (32 ∷ []) (getD ns k 0) ≡ numberFields (take (k + 1) ns)
+pub next-number : (ns : List ℕ) (k : ℕ) → k < length ns →
+    numberFields (take k ns) ++ field (32 ∷ []) (getD ns k 0) ≡ numberFields (take (k + 1) ns)
 next-number ns k h = rw (add-one k, take-suc ns k 0 h) (numbers-more (take k ns) (getD ns k 0))

@@ -1,3 +1,4 @@
 pub mod Decimal
 pub mod LineBytes
 pub mod Added
+pub mod Worked

@@ -1,5 +1,5 @@
-// The lines that `slate` prints, made one after another in a sheet of bytes. Each function adds to a sheet that has `at` bytes, and gives how
-// many it then has; its contract gives the bytes that it adds outright.
+// The lines that `slate` prints, made one after another in a sheet of bytes. Each function adds to a sheet that has `at` bytes, and gives
+// how many it then has; its contract gives the bytes that it adds outright.
 ghost use Prim.Native.Nat.{_+_, _*_, _≤_};
 ghost use lib.ListN.{length};
 ghost use Rattle.schedule.specs.Limits.{mostRows};
@@ -23,7 +23,8 @@ fn put(sheet: &mut [u8], at: usize, bytes: &[u8]) -> usize
 // A field: a fixed word, and a number.
 fn put_field(sheet: &mut [u8], at: usize, word: &[u8], number: u64) -> usize
     requires { ⌜ at + (length (now word) + 20) ≤ length (now sheet) ⌝ }
-    ensures { λ r. ⌜ Added r at (length (now (word .entry)) + 20) (now (sheet .entry)) (field (now (word .entry)) number) (now (sheet .exit)) ⌝ }
+    ensures { λ r. ⌜ Added r at (length (now (word .entry)) + 20) (now (sheet .entry))
+        (field (now (word .entry)) number) (now (sheet .exit)) ⌝ }
 {
     let end = put(sheet, at, word);
     let mut digits = [0u8; 20];
@@ -46,7 +47,8 @@ fn put_late(sheet: &mut [u8], at: usize, late: u32) -> usize
 // The order numbers, a field each.
 fn put_numbers(sheet: &mut [u8], at: usize, numbers: &[u32]) -> usize
     requires { ⌜ at + (11 * length (now numbers) + 10) ≤ length (now sheet) ⌝ }
-    ensures { λ r. ⌜ Added r at (11 * length (now (numbers .entry))) (now (sheet .entry)) (numberFields (now (numbers .entry))) (now (sheet .exit)) ⌝ }
+    ensures { λ r. ⌜ Added r at (11 * length (now (numbers .entry))) (now (sheet .entry))
+        (numberFields (now (numbers .entry))) (now (sheet .exit)) ⌝ }
 {
     let mut end = at;
     let mut k: usize = 0;

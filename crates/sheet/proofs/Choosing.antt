@@ -31,12 +31,11 @@ use Rattle.promises.proofs.Kept.{listed-same}
 use Rattle.promises.proofs.Promise.{day-sound}
 use Rattle.planner.specs.Promise.{orderingRule}
 use Rattle.planner.proofs.Promise.{lent-memory}
-use Rattle.sheet.specs.Input.{wordsIn}
+use Rattle.input.specs.Input.{wordsIn, odd, Counted}
 use Rattle.lines.specs.LineBytes.{refusedLine}
 use Rattle.lines.specs.Added.{Added}
-use Rattle.sheet.specs.Printing.{odd, prints}
+use Rattle.sheet.specs.Printing.{prints}
 use Rattle.sheet.specs.Shown.{bytesOf, shown}
-use Rattle.sheet.specs.Parts.{Counted}
 use Rattle.sheet.proofs.Standing.{dayIn, plansOf, Heard}
 
 pub odd-shown : (input : List ℕ) → odd input ≡ true → shown input ≡ refusedLine 1 (length input / 4)
@@ -52,17 +51,19 @@ module _ (book b after : List ℕ) (room : length b ≡ 512) where
   wide : (day : Day) → readBy orderingRule book ≡ accepted day → 2 * length (planningOf Ordering day .left) ≤ length b
   wide day r = omega (arith, accepted-day orderingRule book day r .few-rows, length-count 1 (length (day .rows)))
 
-  turned : (x : Contents) → readBy orderingRule book ≡ x → (n p : ℕ) → gives (list-answer.Refused n p) after ≡ listCall orderingRule book b →
-      printed orderingRule book ≡ refusal n p
+  turned : (x : Contents) → readBy orderingRule book ≡ x → (n p : ℕ) →
+      gives (list-answer.Refused n p) after ≡ listCall orderingRule book b → printed orderingRule book ≡ refusal n p
   unfolding printed
   turned (refused m q) r n p g =
-      let a : list-answer.Refused n p ≡ list-answer.Refused m q = ap (λ (y : Outcome ListAnswer). y .answer) (g ∙ list-refused orderingRule book m q r b) in
+      let a : list-answer.Refused n p ≡ list-answer.Refused m q =
+      ap (λ (y : Outcome ListAnswer). y .answer) (g ∙ list-refused orderingRule book m q r b) in
       let i : n ≡ m = cc in
       let j : p ≡ q = cc in
       rw (printed, r, i, j) refl
   turned (accepted day) r n p g =
       let is = list-of orderingRule book day r b ∙ list-is (planningOf Ordering day) b (wide day r) in
-      let a : list-answer.Refused n p ≡ list-answer.Plans (length (planningOf Ordering day .plans)) = ap (λ (y : Outcome ListAnswer). y .answer) (g ∙ is) in
+      let a : list-answer.Refused n p ≡ list-answer.Plans (length (planningOf Ordering day .plans)) =
+      ap (λ (y : Outcome ListAnswer). y .answer) (g ∙ is) in
       never (cc)
 
   -- The list is refused: so is the book.
@@ -92,16 +93,17 @@ module _ (book b after : List ℕ) (room : length b ≡ 512) where
             listed-same g s b (wide (dayIn t) r);
       }
 
-  listed-day : (count : ℕ) (x : Contents) → readBy orderingRule book ≡ x → gives (list-answer.Plans count) after ≡ listCall orderingRule book b →
-      (day : Day) × (readBy orderingRule book ≡ accepted day)
+  listed-day : (count : ℕ) (x : Contents) → readBy orderingRule book ≡ x →
+      gives (list-answer.Plans count) after ≡ listCall orderingRule book b → (day : Day) × (readBy orderingRule book ≡ accepted day)
   listed-day count (accepted day) r g = (day, r)
   listed-day count (refused m q) r g =
-      let a : list-answer.Plans count ≡ list-answer.Refused m q = ap (λ (y : Outcome ListAnswer). y .answer) (g ∙ list-refused orderingRule book m q r b) in
+      let a : list-answer.Plans count ≡ list-answer.Refused m q =
+      ap (λ (y : Outcome ListAnswer). y .answer) (g ∙ list-refused orderingRule book m q r b) in
       never (cc)
 
   -- The plans are listed: the table of the book is heard with them.
-  pub list-heard : (count : ℕ) (r : Reading) → r ≡ readingOf (readWords book) → gives (list-answer.Plans count) after ≡ listCall orderingRule book b →
-      Heard book (r .table) count after
+  pub list-heard : (count : ℕ) (r : Reading) → r ≡ readingOf (readWords book) →
+      gives (list-answer.Plans count) after ≡ listCall orderingRule book b → Heard book (r .table) count after
   unfolding readingOf tableOf
   list-heard count r f g =
       let d = listed-day count (readBy orderingRule book) refl g in

@@ -9,8 +9,8 @@ use native.Mathlib.Decide.{decLt}
 use borrow.Author.Tests.{le-ltb}
 use lib.ListN.{length, take}
 use lib.Seq.{take-all, length-take-le}
-use Rattle.sheet.specs.Input.{wordsIn}
-use Rattle.sheet.specs.Printing.{odd, prints}
+use Rattle.input.specs.Input.{wordsIn, odd}
+use Rattle.sheet.specs.Printing.{prints}
 use Rattle.sheet.specs.Shown.{shown}
 use Rattle.sheet.specs.FirstWords.{OnlyFirstWords}
 

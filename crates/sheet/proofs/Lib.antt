@@ -1,4 +1,3 @@
-pub mod InputWords
 pub mod FirstWords
 pub mod Naming
 pub mod Standing

@@ -22,8 +22,8 @@ Numbers = Column number
 pub no-numbers : Numbers (replicate rowPlaces 0) []
 no-numbers = column-none number refl
 
-pub more-numbers : (numbers : List ℕ) (rows : List Row) (n : ℕ) (r : Row) → n < mostRows → r ≡ getD rows n noRow → Numbers numbers (take n rows) →
-    Numbers (set numbers (n + 1) (r .number)) (take (n + 1) rows)
+pub more-numbers : (numbers : List ℕ) (rows : List Row) (n : ℕ) (r : Row) → n < mostRows → r ≡ getD rows n noRow →
+    Numbers numbers (take n rows) → Numbers (set numbers (n + 1) (r .number)) (take (n + 1) rows)
 more-numbers = column-more number
 
 -- An order whose first k rows have their numbers in their places.
@@ -53,9 +53,12 @@ module _ (f : ℕ → ℕ) (order before : List ℕ) where
   }
     where
       new : (j : ℕ) → j < k + 1 → Dec (j ≡ k) → getD (set order k v) j 0 ≡ f (getD before j 0)
-      new j g (yes q) = subst (λ (m : ℕ). getD (set order k v) m 0 ≡ f (getD before m 0)) (sym q) (getD-set-same order k v 0 h ∙ (e ∙ ap f (a .left k (omega arith))))
+      new j g (yes q) =
+          subst (λ (m : ℕ). getD (set order k v) m 0 ≡ f (getD before m 0)) (sym q)
+          (getD-set-same order k v 0 h ∙ (e ∙ ap f (a .left k (omega arith))))
       new j g (no q) = getD-set-other order k j v 0 q ∙ a .done j (omega arith)
 
   pub all-named : (k : ℕ) → length order ≤ k → Named f k order before → order ≡ map f before
   all-named k h a =
-      ext-getD 0 order (map f before) (a .size ∙ sym (length-map before f)) (λ i l. a .done i (omega arith) ∙ sym (getD-map f before i (omega (arith, a .size))))
+      ext-getD 0 order (map f before) (a .size ∙ sym (length-map before f))
+      (λ i l. a .done i (omega arith) ∙ sym (getD-map f before i (omega (arith, a .size))))

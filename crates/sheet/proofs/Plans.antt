@@ -31,7 +31,8 @@ lines-more : (j n : ℕ) (ls : List Line) (l : Line) → n ≡ j + length ls →
 unfolding planLines
 lines-more j n [] l e = ap (λ (k : ℕ). line k l) (e ∙ add-zero j) ∙ sym (append-nil (line j l))
 lines-more j n (m ∷ ls) l e =
-    append-assoc (line j m) (planLines (suc j) ls) (line n l) ∙ ap (λ (b : List ℕ). line j m ++ b) (lines-more (suc j) n ls l (omega arith))
+    append-assoc (line j m) (planLines (suc j) ls) (line n l) ∙
+    ap (λ (b : List ℕ). line j m ++ b) (lines-more (suc j) n ls l (omega arith))
 
 pub next-line : (ls : List Line) (k : ℕ) (l : Line) → k < length ls → nth ls (suc k) ≡ some l →
     planLines 1 (take k ls) ++ line (k + 1) l ≡ planLines 1 (take (k + 1) ls)

@@ -53,7 +53,8 @@ pub signed-above : (w : ℕ) → 2147483648 ≤ w → w < 4294967296 → lowered
 unfolding signed
 signed-above w h b =
     rw (le-ltb w 2147483648 h)
-    (sub-cases (w - 2147483648) 2147483648 (λ z. z ≡ negsuc (4294967295 - w)) (λ k e. ap negsuc (omega arith)) (λ k e. let z : ⊥ = omega arith in absurd z))
+    (sub-cases (w - 2147483648) 2147483648 (λ z. z ≡ negsuc (4294967295 - w)) (λ k e. ap negsuc (omega arith))
+    (λ k e. let z : ⊥ = omega arith in absurd z))
 
 -- A signed word as the machine holds it.
 signed-lowered : (w : ℕ) → w < 4294967296 → (n : ℕ) × (n < 4294967296) × (lowered n ≡ signed w)
@@ -66,7 +67,8 @@ signed-lowered w b = go (decLt w 2147483648)
 pub signed-word : (w : ℕ) → w < 4294967296 → (z : ℤ) → z ≡ signed w → toZ w32 (ofZ w32 z) ≡ signed w
 signed-word w b z e =
     let l = signed-lowered w b in
-    ap (λ (y : ℤ). toZ w32 (ofZ w32 y)) (e ∙ sym (l .2)) ∙ (toZ-ofZ w32 (lowered (l .0)) (record { sfits = lowered-fits (l .0) (l .1) }) ∙ l .2)
+    ap (λ (y : ℤ). toZ w32 (ofZ w32 y)) (e ∙ sym (l .2)) ∙
+    (toZ-ofZ w32 (lowered (l .0)) (record { sfits = lowered-fits (l .0) (l .1) }) ∙ l .2)
 
 -- Plan k of those that stand in a buffer.
 abbrev pub pairIn : List ℕ → ℕ → Pair

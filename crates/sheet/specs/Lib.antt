@@ -1,4 +1,3 @@
-pub mod Input
 pub mod Printing
 pub mod Shown
 pub mod FirstWords

@@ -1,10 +1,10 @@
 -- What the crate's parts hold.
 -- Rests on: Printing.
-use Prim.Native.Nat.{ℕ, zero, suc, _+_, _*_, _≤_, _<_}
+use Prim.Native.Nat.{ℕ, suc, _+_, _*_, _≤_, _<_}
 use mathlib.Core.Path.{_≡_}
 use mathlib.Core.List.{List, [], map}
 use mathlib.Core.Option.{some}
-use lib.ListN.{length, take, getD, replicate}
+use lib.ListN.{length, getD, replicate}
 use Rattle.schedule.specs.Limits.{mostRows, rowPlaces}
 use Rattle.results.specs.Results.{signed}
 use Rattle.calls.specs.declared.ListAnswer.the-variants.{Plans}
@@ -16,12 +16,6 @@ use Rattle.planner.specs.Promise.{orderingRule}
 -- The bytes of a sheet.
 abbrev pub sheetBytes : ℕ
 sheetBytes = 750000
-
--- The first n places of a buffer hold a list of n numbers.
-pub record Counted (n : ℕ) (buffer list : List ℕ) : Type 0 where
-  pub few : n ≤ length buffer
-  pub size : n ≡ length (take n buffer)
-  pub holds : take n buffer ≡ list
 
 -- The call for the list answered so many plans, and wrote them into a buffer of 512 words.
 abbrev pub Answered : (book : List ℕ) (count : ℕ) (plans : List ℕ) → Type 0
@@ -49,4 +43,5 @@ pub record Listed (book numbers : List ℕ) (rows count : ℕ) (plans : List ℕ
   pub places : length numbers ≡ rowPlaces
   pub size : length plans ≡ 512
   pub counted : length (linesOf book) ≡ count
-  pub each : (k : ℕ) → k < count → nth (linesOf book) (suc k) ≡ some (lineFor book numbers rows (getD plans (2 * k) 0) (getD plans (2 * k + 1) 0))
+  pub each : (k : ℕ) → k < count →
+      nth (linesOf book) (suc k) ≡ some (lineFor book numbers rows (getD plans (2 * k) 0) (getD plans (2 * k + 1) 0))

@@ -19,8 +19,3 @@ bytesOf (listing rows ls) = rowsLine rows (length ls) ++ planLines 1 ls
 
 unfoldable pub shown : List ℕ → List ℕ
 shown input = bytesOf (prints input)
-
--- Opens every definition of this file: name it on an `unfolding` line where all is to be computed.
-unfoldable pub openShown : Unit {0}
-unfolding planLines bytesOf shown
-openShown = tt

@@ -1,8 +1,8 @@
-// The lines that `slate` prints, all of them, from the bytes of an input. `fill` is the one function offered: it has no `requires`, and its
-// contract gives every byte.
+// The lines that `slate` prints, all of them, from the bytes of an input. `fill` is the one function offered: it has no `requires`, and
+// its contract gives every byte.
 ghost use mathlib.Core.Path.{_≡_};
 ghost use mathlib.Core.List.{map};
-ghost use Prim.Native.Nat.{ℕ, _+_, _*_, _≤_, _<_};
+ghost use Prim.Native.Nat.{ℕ, _+_, _*_, _≤_};
 ghost use lib.ListN.{length, getD, replicate};
 ghost use Rattle.schedule.specs.Limits.{mostRows, rowPlaces};
 ghost use Rattle.schedule.specs.Rows.{row};
@@ -13,56 +13,17 @@ ghost use Rattle.calls.specs.Lines.{printed};
 ghost use Rattle.planner.specs.Promise.{orderingRule};
 ghost use Rattle.lines.specs.LineBytes.{planLine};
 ghost use Rattle.lines.specs.Added.{Added};
-ghost use Rattle.sheet.specs.Input.{wordAt, wordsIn};
-ghost use Rattle.sheet.specs.Printing.{odd};
+ghost use Rattle.input.specs.Input.{wordsIn, Counted};
 ghost use Rattle.sheet.specs.Shown.{planLines, bytesOf, shown};
-ghost use Rattle.sheet.specs.Parts.{sheetBytes, Counted, Answered, Listed, orderNumbers, linesOf};
+ghost use Rattle.sheet.specs.Parts.{sheetBytes, Answered, Listed, orderNumbers, linesOf};
 use book::Table;
 use calls::ListAnswer;
+use input::WORDS;
 use refusals::Tested;
 use schedule::Desk;
 
-// The bytes and the words that are looked at.
-const BYTES: usize = 4_112;
-
-const WORDS: usize = 1_028;
-
 // The bytes of a sheet: room for the line that counts and for those of 256 plans, 2,900 bytes each at most.
 pub const SHEET: usize = 750_000;
-
-fn wide(byte: u8) -> u32
-    ensures { λ r. ⌜ (r ≡ byte) × (r < 256) ⌝ }
-{
-    byte as u32
-}
-
-// The little-endian word at a place.
-fn word_at(input: &[u8], at: usize) -> u32
-    requires { ⌜ at + 4 ≤ length (now input) ⌝ }
-    ensures { λ r. ⌜ r ≡ wordAt (now (input .entry)) at ⌝ }
-{
-    let a = wide(input[at]);
-    let b = wide(input[at + 1]);
-    let c = wide(input[at + 2]);
-    let d = wide(input[at + 3]);
-    a + 256 * b + 65_536 * c + 16_777_216 * d
-}
-
-// The whole words of the input, 1,028 at most: how many.
-fn words_of(input: &[u8], words: &mut [u32; WORDS]) -> usize
-    requires { ⌜ length (now words) ≡ 1028 ⌝ }
-    ensures { λ r. ⌜ Counted r (now (words .exit)) (wordsIn 1028 (now (input .entry))) ⌝ }
-{
-    let mut k: usize = 0;
-    while k < WORDS {
-        if input.len() < 4 * k + 4 {
-            return k;
-        }
-        words[k] = word_at(input, 4 * k);
-        k += 1;
-    }
-    k
-}
 
 // The number that a word in two's complement stands for.
 fn signed_of(word: u32) -> i32
@@ -181,16 +142,6 @@ fn put_plans(
     next
 }
 
-// The input ends before 1,028 words are in, with 1 to 3 odd bytes.
-fn is_odd(input: &[u8]) -> bool
-    ensures { λ r. ⌜ r ≡ odd (now (input .entry)) ⌝ }
-{
-    if input.len() < BYTES {
-        return input.len() % 4 != 0;
-    }
-    false
-}
-
 // The lines of a book that is listed: the line that counts, then those of the plans.
 fn put_listing(book: &[u32], count: usize, plans: &[u32; 512], sheet: &mut [u8]) -> usize
     requires { ⌜ (Answered (now book) count (now plans)) × (sheetBytes ≤ length (now sheet)) ⌝ }
@@ -208,7 +159,7 @@ fn put_lines(input: &[u8], book: &[u32], sheet: &mut [u8]) -> usize
     requires { ⌜ (now book ≡ wordsIn 1028 (now input)) × (sheetBytes ≤ length (now sheet)) ⌝ }
     ensures { λ r. ⌜ Counted r (now (sheet .exit)) (shown (now (input .entry))) ⌝ }
 {
-    if is_odd(input) {
+    if input::is_odd(input) {
         return lines::refused_line(sheet, 0, Tested::CUT, input.len() / 4);
     }
     let mut plans = no_plans();
@@ -223,6 +174,6 @@ pub fn fill(input: &[u8], sheet: &mut [u8; SHEET]) -> usize
     ensures { λ r. ⌜ Counted r (now (sheet .exit)) (shown (now (input .entry))) ⌝ }
 {
     let mut words = [0u32; WORDS];
-    let count = words_of(input, &mut words);
+    let count = input::words_of(input, &mut words);
     put_lines(input, &words[..count], sheet)
 }

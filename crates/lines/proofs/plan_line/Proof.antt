@@ -44,8 +44,15 @@ same-length c = search needs
 returns : tie.Need-returns
 unfolding planLine
 returns c =
-    let front = then-added (then-added (c .before .before .before .before .before .before .before .before .before .before .before .before .before .before .before .before .before .before .before .before .before .before .before .before .before .put-field .ensures) (c .before .before .before .before .before .before .before .before .before .before .before .before .before .before .before .before .before .before .before .before .put-field2 .ensures)) (c .before .before .before .before .before .before .before .before .before .before .before .before .before .before .before .before .put-late .ensures) in
-    same-added (omega (arith, c .before .before .before .before .before .before .before .before .before .before .before .before .before .before .before .before .before .before .before .before .before .before .before .before .before .before .before .before .before .before .pre .0)) refl (then-added (then-added (then-added front (c .before .before .before .before .before .before .before .before .before .before .before .put .ensures)) (c .before .before .before .before .before .before .before .put-numbers .ensures)) (c .before .before .put2 .ensures))
+    let ordered = c .before .before .before .before .before .before .before .before .before .before .before in
+    let lately = ordered .before .before .before .before .before in
+    let begun = lately .before .before .before .before .before .before .before .before .before in
+    let front =
+    then-added (then-added (begun .put-field .ensures) (lately .before .before .before .before .put-field2 .ensures)) (lately .put-late .ensures) in
+    let back =
+    then-added (then-added front (ordered .put .ensures)) (c .before .before .before .before .before .before .before .put-numbers .ensures) in
+    same-added (omega (arith, begun .before .before .before .before .before .pre .0)) refl
+    (then-added back (c .before .before .put2 .ensures))
 
 pub plan-line-spec : {M : Type 1} → statement M
 plan-line-spec =

@@ -38,8 +38,12 @@ loop-less c = search needs
 loop-again : tie.Need-loop-again Inv-loop μ-loop
 loop-again c =
     let l = c .before .before .loop in
-    let a = c .before .before .before .args in
-    (search needs, simp length-set (search needs), one-more (a .sheet .now) (a .bytes .now) (l .sheet) (a .at) (l .i) (omega arith) (omega arith) (l .inv .2))
+    let a = c .before .before .before .args in (
+      search needs,
+      simp length-set (search needs),
+      one-more (a .sheet .now) (a .bytes .now) (l .sheet) (a .at) (l .i) (omega arith)
+          (omega arith) (l .inv .2),
+    )
 
 add-result : tie.Need-add-result Inv-loop μ-loop
 add-result c = search needs

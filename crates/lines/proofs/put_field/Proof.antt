@@ -33,10 +33,12 @@ same-length c = search needs
 
 returns : tie.Need-returns
 returns c =
+    let far = c .before .before .before .before .before .before .before .before in
     let d = c .before .before .before .before .before .decimal in
-    let n = c .before .before .before .before .before .before .before .before .before .before .before .before .before .args .number in
+    let n = far .before .before .before .before .before .args .number in
     let digits = d .ensures .1 .1 ∙ decimal-is n (d .result) (d .ensures .1 .0) in
-    then-added (c .before .before .before .before .before .before .before .before .before .put .ensures) (same-added (omega (arith, ap length digits, short 19 n (omega arith))) digits (c .before .before .put2 .ensures))
+    then-added (far .before .put .ensures) (same-added (omega (arith, ap length digits, short 19 n (omega arith))) digits
+    (c .before .before .put2 .ensures))
 
 pub put-field-spec : {M : Type 1} → statement M
 put-field-spec =

@@ -18,7 +18,9 @@ same-length : tie.Need-same-length
 same-length c = search needs
 
 returns : tie.Need-returns
-returns c = same-added (omega arith) (late-positive (c .before .before .before .before .before .before .before .args .late) (omega arith)) (c .before .before .put-field .ensures)
+returns c =
+    let far = c .before .before .before .before .before .before .before in
+    same-added (omega arith) (late-positive (far .args .late) (omega arith)) (c .before .before .put-field .ensures)
 
 slice-aggregate-put-field-2 : tie.Need-slice-aggregate-put-field-2
 slice-aggregate-put-field-2 c = search needs
@@ -33,7 +35,9 @@ same-length-2 : tie.Need-same-length-2
 same-length-2 c = search needs
 
 returns-2 : tie.Need-returns-2
-returns-2 c = same-added (le-refl 27) (late-negative (c .before .before .before .before .before .before .before .args .late) (omega arith) (omega arith)) (c .before .before .put-field2 .ensures)
+returns-2 c =
+    let far = c .before .before .before .before .before .before .before in
+    same-added (le-refl 27) (late-negative (far .args .late) (omega arith) (omega arith)) (c .before .before .put-field2 .ensures)
 
 pub put-late-spec : {M : Type 1} → statement M
 put-late-spec =

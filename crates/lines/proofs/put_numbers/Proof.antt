@@ -14,7 +14,8 @@ use Rattle.lines.proofs.put_numbers.Statement.{statement}
 use Rattle.lines.proofs.put_numbers.Tie as tie
 
 abbrev Inv-loop : tie.InvT-loop
-Inv-loop sheet₀ at numbers end₀ k₀ t6 sheet end k = (k ≤ length numbers) × Added end at (11 * k) sheet₀ (numberFields (take k numbers)) sheet
+Inv-loop sheet₀ at numbers end₀ k₀ t6 sheet end k = (k ≤ length numbers) × Added end at (11 * k) sheet₀
+    (numberFields (take k numbers)) sheet
 
 abbrev μ-loop : tie.MeasureT-loop
 μ-loop sheet₀ at numbers end₀ k₀ t6 sheet end k = length numbers - k
@@ -46,10 +47,12 @@ loop-less c = search needs
 
 loop-again : tie.Need-loop-again Inv-loop μ-loop
 loop-again c =
-    let l = c .before .before .before .before .before .before .before .loop in
-    let e = next-number (c .before .before .before .before .before .before .before .before .before .before .args .numbers .now) (l .k) (omega arith) in
-    let n = getD (c .before .before .before .before .before .before .before .before .before .before .args .numbers .now) (l .k) 0 in
-    let f = fewer-added (omega arith) (short-field n (omega (arith, c .before .before .before .shared-slice-known2 .given (l .k)))) (c .before .before .put-field .ensures) in
+    let far = c .before .before .before .before .before .before .before in
+    let l = far .loop in
+    let e = next-number (far .before .before .before .args .numbers .now) (l .k) (omega arith) in
+    let n = getD (far .before .before .before .args .numbers .now) (l .k) 0 in
+    let f = fewer-added (omega arith) (short-field n (omega (arith, c .before .before .before .shared-slice-known2 .given (l .k))))
+    (c .before .before .put-field .ensures) in
     (search needs, same-added (omega arith) e (then-added (l .inv .1) f))
 
 same-length : tie.Need-same-length Inv-loop μ-loop
@@ -58,7 +61,8 @@ same-length c = search needs
 returns : tie.Need-returns Inv-loop μ-loop
 returns c =
     let l = c .before .loop in
-    same-added (omega arith) (ap numberFields (take-all (l .k) (c .before .before .before .before .args .numbers .now) (omega arith))) (l .inv .1)
+    same-added (omega arith) (ap numberFields (take-all (l .k) (c .before .before .before .before .args .numbers .now)
+    (omega arith))) (l .inv .1)
 
 pub put-numbers-spec : {M : Type 1} → statement M
 put-numbers-spec =

@@ -29,7 +29,10 @@ same-length c = search needs
 
 returns : tie.Need-returns
 unfolding refusedLine
-returns c = then-added (then-added (c .before .before .before .before .before .before .before .before .before .before .before .before .put-field .ensures) (c .before .before .before .before .before .before .before .put-field2 .ensures)) (c .before .before .put .ensures)
+returns c =
+    let far = c .before .before .before .before .before .before .before .before in
+    then-added (then-added (far .before .before .before .before .put-field .ensures)
+    (c .before .before .before .before .before .before .before .put-field2 .ensures)) (c .before .before .put .ensures)
 
 pub refused-line-spec : {M : Type 1} → statement M
 refused-line-spec =

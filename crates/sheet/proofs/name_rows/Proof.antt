@@ -42,8 +42,11 @@ loop-less c = simp length-set (omega arith)
 loop-again : tie.Need-loop-again Inv-loop μ-loop
 loop-again c =
     let l = c .before .before .before .loop in
-    let a = c .before .before .before .before .before .args in
-    (simp length-set (search needs), one-named (λ i. getD (a .numbers .now) i 0) (l .order) (a .order .now) (l .k) _ (omega arith) (c .number-at .ensures) (l .inv .1))
+    let a = c .before .before .before .before .before .args in (
+      simp length-set (search needs),
+      one-named (λ i. getD (a .numbers .now) i 0) (l .order) (a .order .now) (l .k) _ (omega arith)
+          (c .number-at .ensures) (l .inv .1),
+    )
 
 same-length : tie.Need-same-length Inv-loop μ-loop
 same-length c = let l = c .before .loop in l .inv .1 .size

@@ -45,15 +45,19 @@ loop-again : tie.Need-loop-again Inv-loop μ-loop
 loop-again c =
     let l = c .before .before .loop in
     let t = c .before .before .before .args .t1 in
-    let r = getD (t .rows) (l .i) noRow in
-    (search needs, more-numbers (l .numbers) (tableRows t) (l .i) r (omega arith) (sym (getD-take (t .count) (t .rows) (l .i) noRow (omega arith))) (l .inv .1))
+    let r = getD (t .rows) (l .i) noRow in (
+      search needs,
+      more-numbers (l .numbers) (tableRows t) (l .i) r (omega arith)
+          (sym (getD-take (t .count) (t .rows) (l .i) noRow (omega arith))) (l .inv .1),
+    )
 
 returns : tie.Need-returns Inv-loop μ-loop
 returns c =
     let l = c .before .loop in
     let t = c .before .before .args .t1 in
     let e : l .i ≡ t .count = omega arith in
-    subst (λ (rows : List Row). Numbers (l .numbers) rows) (take-take (l .i) (t .count) (t .rows) (omega arith) ∙ ap (λ (n : ℕ). take n (t .rows)) e) (l .inv .1)
+    subst (λ (rows : List Row). Numbers (l .numbers) rows)
+    (take-take (l .i) (t .count) (t .rows) (omega arith) ∙ ap (λ (n : ℕ). take n (t .rows)) e) (l .inv .1)
 
 pub numbers-of-spec : {M : Type 1} → statement M
 numbers-of-spec =

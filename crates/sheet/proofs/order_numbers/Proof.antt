@@ -28,8 +28,14 @@ same-length c = search needs
 
 returns : tie.Need-returns
 returns c =
-    let a = c .before .before .before .before .before .before .before .before .before .before .before .args in
-    (search needs, c .before .before .name-rows .ensures ∙ ap (map (λ i. getD (a .numbers .now) i 0)) (ap (λ (o : Outcome OrderAnswer). o .buffer) (c .before .before .before .before .before .before .order-for-bound .ensures) ∙ ap (λ (y : ℤ). boundCall orderingRule (a .book .now) y (a .order .now) .buffer) (signed-word (a .late) (omega arith) (c .before .before .before .before .before .before .before .before .signed-of .result) (c .before .before .before .before .before .before .before .before .signed-of .ensures))))
+    let far = c .before .before .before .before .before .before in
+    let a = far .before .before .before .before .before .args in (
+      search needs,
+      c .before .before .name-rows .ensures ∙ ap (map (λ i. getD (a .numbers .now) i 0))
+          (ap (λ (o : Outcome OrderAnswer). o .buffer) (far .order-for-bound .ensures) ∙ ap
+          (λ (y : ℤ). boundCall orderingRule (a .book .now) y (a .order .now) .buffer)
+          (signed-word (a .late) (omega arith) (far .before .before .signed-of .result) (far .before .before .signed-of .ensures))),
+    )
 
 pub order-numbers-spec : {M : Type 1} → statement M
 order-numbers-spec =

@@ -22,7 +22,9 @@ same-length c = search needs
 
 returns : tie.Need-returns
 returns c =
-    let e = odd-shown (c .before .before .before .before .before .before .before .before .before .args .input .now) (sym (c .before .before .before .before .before .is-odd .ensures) ∙ c .before .before .before .before .if1 .taken) in
+    let far = c .before .before .before .before in
+    let e = odd-shown (far .before .before .before .before .before .args .input .now)
+    (sym (far .before .is-odd .ensures) ∙ far .if1 .taken) in
     all-counted (same-added (le-refl 53) (sym e) (c .before .before .refused-line .ensures))
 
 no-plans-requires : tie.Need-no-plans-requires
@@ -45,20 +47,26 @@ enum-known-count c = search needs
 
 put-listing-requires : tie.Need-put-listing-requires
 put-listing-requires c κs =
+    let far = c .before .before .before .before .before .before .before .before in
     let l = c .before .before .before .before .before .before .list in
     let g = ap (λ (r : ListAnswer). gives r (l .last .1 .0)) (sym (c .before .before .before .count .given .1)) ∙ l .ensures in
-    ((c .before .before .before .before .before .before .before .before .no-plans .result, sym (c .before .before .before .before .before .before .before .before .no-plans .ensures), g), c .before .before .before .before .before .before .before .before .before .before .before .before .before .before .pre .1)
+    ((far .no-plans .result, sym (far .no-plans .ensures), g), far .before .before .before .before .before .before .pre .1)
 
 same-length-2 : tie.Need-same-length-2
 same-length-2 c = search needs
 
 returns-2 : tie.Need-returns-2
 returns-2 c =
-    let a = c .before .before .before .before .before .before .before .before .before .before .before .before .before .before .before .before .args in
-    let l = c .before .before .before .before .before .before .before .before .list in
-    let g = ap (λ (r : ListAnswer). gives r (l .last .1 .0)) (sym (c .before .before .before .before .before .number .given .1)) ∙ l .ensures in
-    let even = even-shown (a .input .now) (a .book .now) (c .before .before .before .before .before .before .before .before .before .before .before .before .before .before .before .before .pre .0) (sym (c .before .before .before .before .before .before .before .before .before .before .before .before .is-odd .ensures) ∙ c .before .before .before .before .before .before .before .before .before .before .before .if1 .left) in
-    let turned = list-turned (a .book .now) (c .before .before .before .before .before .before .before .before .before .before .no-plans .result) (l .last .1 .0) (sym (c .before .before .before .before .before .before .before .before .before .before .no-plans .ensures)) _ _ g in
+    let far = c .before .before .before .before .before .before .before .before in
+    let a = far .before .before .before .before .before .before .before .before .args in
+    let l = far .list in
+    let g = ap (λ (r : ListAnswer). gives r (l .last .1 .0)) (sym (c .before .before .before .before .before .number .given .1)) ∙
+    l .ensures in
+    let even = even-shown (a .input .now) (a .book .now)
+    (far .before .before .before .before .before .before .before .before .pre .0)
+    (sym (far .before .before .before .before .is-odd .ensures) ∙ far .before .before .before .if1 .left) in
+    let turned = list-turned (a .book .now) (far .before .before .no-plans .result) (l .last .1 .0)
+    (sym (far .before .before .no-plans .ensures)) _ _ g in
     all-counted (same-added (le-refl 53) (sym (even ∙ turned)) (c .before .before .refused-line2 .ensures))
 
 same-length-3 : tie.Need-same-length-3
@@ -66,8 +74,11 @@ same-length-3 c = search needs
 
 returns-3 : tie.Need-returns-3
 returns-3 c =
-    let a = c .before .before .before .before .before .before .before .before .before .before .before .before .before .before .before .before .before .args in
-    let even = even-shown (a .input .now) (a .book .now) (c .before .before .before .before .before .before .before .before .before .before .before .before .before .before .before .before .before .pre .0) (sym (c .before .before .before .before .before .before .before .before .before .before .before .before .before .is-odd .ensures) ∙ c .before .before .before .before .before .before .before .before .before .before .before .before .if1 .left) in
+    let far = c .before .before .before .before .before .before .before .before in
+    let a = far .before .before .before .before .before .before .before .before .before .args in
+    let even = even-shown (a .input .now) (a .book .now)
+    (far .before .before .before .before .before .before .before .before .before .pre .0)
+    (sym (far .before .before .before .before .before .is-odd .ensures) ∙ far .before .before .before .before .if1 .left) in
     same-counted (sym even) (c .before .before .put-listing .ensures)
 
 pub put-lines-spec : {M : Type 1} → statement M

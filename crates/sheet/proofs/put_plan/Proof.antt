@@ -24,7 +24,8 @@ array-borrow-prefix-order : tie.Need-array-borrow-prefix-order
 array-borrow-prefix-order c = search needs
 
 slice-aggregate-order-numbers : tie.Need-slice-aggregate-order-numbers
-slice-aggregate-order-numbers c = sym (length-take-le (c .before .before .before .before .args .rows) (c .before .no-order .result) (omega arith))
+slice-aggregate-order-numbers c = sym (length-take-le (c .before .before .before .before .args .rows) (c .before .no-order .result)
+    (omega arith))
 
 order-numbers-requires : tie.Need-order-numbers-requires
 order-numbers-requires c κs = search needs
@@ -57,15 +58,18 @@ same-length c = search needs
 
 returns : tie.Need-returns
 returns c =
-    let a = c .before .before .before .before .before .before .before .before .before .before .before .args in
+    let far = c .before .before .before .before .before .before in
+    let a = far .before .before .before .before .before .args in
     let n = a .rows in
-    let o = c .before .before .before .before .before .before .order-numbers in
-    let b = c .before .before .before .before .before .before .before .before .no-order .result in
+    let o = far .order-numbers in
+    let b = far .before .before .no-order .result in
     let e = length-take-le n b (omega arith) in
     let f = lent-front n (o .last .1 .1 .1 .0) (drop n b) (o .ensures .0 ∙ e) in
-    let blank = ap (take n) (c .before .before .before .before .before .before .before .before .no-order .ensures .1) ∙ front-blank n 256 (omega arith) in
-    let named = ap (λ (ws : List ℕ). map (λ i. getD (a .numbers .now) i 0) (boundCall orderingRule (a .book .now) (signed (a .late)) ws .buffer)) blank in
-    same-added (le-refl 2900) (ap (planLine (a .plan) (a .end) (signed (a .late))) (f ∙ (o .ensures .1 ∙ named))) (c .before .before .plan-line .ensures)
+    let blank = ap (take n) (far .before .before .no-order .ensures .1) ∙ front-blank n 256 (omega arith) in
+    let named = ap (λ (ws : List ℕ). map (λ i. getD (a .numbers .now) i 0)
+    (boundCall orderingRule (a .book .now) (signed (a .late)) ws .buffer)) blank in
+    same-added (le-refl 2900) (ap (planLine (a .plan) (a .end) (signed (a .late))) (f ∙ (o .ensures .1 ∙ named)))
+    (c .before .before .plan-line .ensures)
 
 pub put-plan-spec : {M : Type 1} → statement M
 put-plan-spec =

@@ -15,7 +15,8 @@ use Rattle.sheet.proofs.put_plans.Statement.{statement}
 use Rattle.sheet.proofs.put_plans.Tie as tie
 
 abbrev Inv-loop : tie.InvT-loop
-Inv-loop book numbers rows count plans sheet₀ at next₀ k₀ sheet next k = (k ≤ count) × Added next at (2900 * k) sheet₀ (planLines 1 (take k (linesOf book))) sheet
+Inv-loop book numbers rows count plans sheet₀ at next₀ k₀ sheet next k = (k ≤ count) × Added next at (2900 * k) sheet₀
+    (planLines 1 (take k (linesOf book))) sheet
 
 abbrev μ-loop : tie.MeasureT-loop
 μ-loop book numbers rows count plans sheet₀ at next₀ k₀ sheet next k = count - k
@@ -43,7 +44,11 @@ mul-late-2 : tie.Need-mul-late-2 Inv-loop μ-loop
 mul-late-2 c = search needs
 
 element-copy-out-late : tie.Need-element-copy-out-late Inv-loop μ-loop
-element-copy-out-late c = omega (arith, c .before .before .before .before .before .pre .0 .size, c .before .before .before .before .before .pre .0 .fits)
+element-copy-out-late c = omega (
+  arith,
+  c .before .before .before .before .before .pre .0 .size,
+  c .before .before .before .before .before .pre .0 .fits,
+)
 
 add-plan : tie.Need-add-plan Inv-loop μ-loop
 add-plan c = search needs
@@ -59,10 +64,12 @@ loop-less c = search needs
 
 loop-again : tie.Need-loop-again Inv-loop μ-loop
 loop-again c =
-    let a = c .before .before .before .before .before .before .before .before .before .before .args in
-    let h = c .before .before .before .before .before .before .before .before .before .before .pre .0 in
-    let l = c .before .before .before .before .before .before .before .loop in
-    let line = lineFor (a .book .now) (a .numbers .now) (a .rows) (getD (a .plans .now) (2 * l .k) 0) (getD (a .plans .now) (2 * l .k + 1) 0) in
+    let far = c .before .before .before .before .before .before .before in
+    let a = far .before .before .before .args in
+    let h = far .before .before .before .pre .0 in
+    let l = far .loop in
+    let line = lineFor (a .book .now) (a .numbers .now) (a .rows) (getD (a .plans .now) (2 * l .k) 0)
+    (getD (a .plans .now) (2 * l .k + 1) 0) in
     let e = next-line (linesOf (a .book .now)) (l .k) line (omega (arith, h .counted)) (h .each (l .k) (omega arith)) in
     (search needs, same-added (omega arith) e (then-added (l .inv .1) (c .before .before .put-plan .ensures)))
 
@@ -73,7 +80,8 @@ returns : tie.Need-returns Inv-loop μ-loop
 returns c =
     let l = c .before .loop in
     let ls = linesOf (c .before .before .before .before .args .book .now) in
-    same-added (omega arith) (ap (planLines 1) (take-all (l .k) ls (omega (arith, c .before .before .before .before .pre .0 .counted)))) (l .inv .1)
+    same-added (omega arith) (ap (planLines 1) (take-all (l .k) ls
+    (omega (arith, c .before .before .before .before .pre .0 .counted)))) (l .inv .1)
 
 pub put-plans-spec : {M : Type 1} → statement M
 put-plans-spec =

@@ -25,13 +25,15 @@ lower-requires : tie.Need-lower-requires
 lower-requires c κs = search needs
 
 returns : tie.Need-returns
-returns c = let w = c .before .before .args .word in back (c .lower .result) (w + 2147483648) (omega arith) (c .lower .ensures) ∙ signed-below w (omega arith)
+returns c = let w = c .before .before .args .word in back (c .lower .result) (w + 2147483648) (omega arith) (c .lower .ensures) ∙
+    signed-below w (omega arith)
 
 lower-requires-2 : tie.Need-lower-requires-2
 lower-requires-2 c κs = search needs
 
 returns-2 : tie.Need-returns-2
-returns-2 c = let w = c .before .before .args .word in back (c .lower2 .result) (w - 2147483648) (omega arith) (c .lower2 .ensures) ∙ signed-above w (omega arith) (omega arith)
+returns-2 c = let w = c .before .before .args .word in back (c .lower2 .result) (w - 2147483648) (omega arith) (c .lower2 .ensures) ∙
+    signed-above w (omega arith) (omega arith)
 
 pub signed-of-spec : {M : Type 1} → statement M
 signed-of-spec = tie.close (tie.spec add-lower lower-requires returns lower-requires-2 returns-2)

@@ -7,8 +7,7 @@ use native.Mathlib.Omega.{arith}
 use native.Mathlib.Numerals.{add-one, unary-clauses}
 use lib.ListN.{length, take, drop, set}
 use lib.Seq.{drop-cons, take-suc-set, length-take-le}
-use Rattle.sheet.specs.Input.{wordAt, wordsIn}
-use Rattle.sheet.specs.Parts.{Counted}
+use Rattle.input.specs.Input.{wordAt, wordsIn, Counted}
 
 pub short : (n : ℕ) (bytes : List ℕ) → length bytes < 4 → wordsIn n bytes ≡ []
 unfolding wordsIn
@@ -27,7 +26,12 @@ pub long : (n at : ℕ) (bytes : List ℕ) → at + 4 ≤ length bytes →
     wordsIn (suc n) (drop at bytes) ≡ wordAt bytes at ∷ wordsIn n (drop (at + 4) bytes)
 unfolding wordsIn
 long n at bytes h =
-    rw (drop-cons bytes at 0 (omega arith), drop-cons bytes (suc at) 0 (omega arith), drop-cons bytes (suc (suc at)) 0 (omega arith), drop-cons bytes (suc (suc (suc at))) 0 (omega arith))
+    rw (
+      drop-cons bytes at 0 (omega arith),
+      drop-cons bytes (suc at) 0 (omega arith),
+      drop-cons bytes (suc (suc at)) 0 (omega arith),
+      drop-cons bytes (suc (suc (suc at))) 0 (omega arith),
+    )
     (simp unary-clauses)
 
 -- What the loop has taken, with what is still to come, is all.

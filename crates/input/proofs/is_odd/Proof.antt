@@ -2,8 +2,8 @@
 -- Assumes nothing.
 use mathlib.Core.Path.{refl}
 use borrow.Author.Tests.{lt-ltb, le-ltb}
-use Rattle.sheet.proofs.is_odd.Statement.{statement}
-use Rattle.sheet.proofs.is_odd.Tie as tie
+use Rattle.input.proofs.is_odd.Statement.{statement}
+use Rattle.input.proofs.is_odd.Tie as tie
 
 returns : tie.Need-returns
 returns c = rw (lt-ltb _ _ (c .if1 .taken)) refl

@@ -1,15 +1,15 @@
 -- `words_of` meets its contract. The invariant: the words taken, with those of the bytes that are left, are all. The measure is the room
 -- left. Assumes nothing.
 use borrow.Author.Needs.{needs}
-use Rattle.sheet.proofs.words_of.Statement.{statement}
-use Rattle.sheet.proofs.words_of.Tie as tie
+use Rattle.input.proofs.words_of.Statement.{statement}
+use Rattle.input.proofs.words_of.Tie as tie
 use Prim.Native.Nat.{_≤_, _+_, _*_, _-_}
 use mathlib.Core.Path.{_≡_, _∙_}
 use mathlib.Core.List.{_++_}
 use native.Mathlib.Omega.{arith}
 use lib.ListN.{length, take, drop, length-set, length-drop}
-use Rattle.sheet.specs.Input.{wordsIn}
-use Rattle.sheet.proofs.InputWords.{short, no-more, taken, done}
+use Rattle.input.specs.Input.{wordsIn}
+use Rattle.input.proofs.InputWords.{short, no-more, taken, done}
 
 abbrev Inv-loop : tie.InvT-loop
 Inv-loop input words₀ k₀ words k =
@@ -30,7 +30,8 @@ add-if1 c = search needs
 returns : tie.Need-returns Inv-loop μ-loop
 returns c =
     done (c .before .before .before .before .args .input .now) (c .before .before .loop .words) (c .before .before .loop .k) (omega arith)
-    (short (1028 - c .before .before .loop .k) (drop (4 * c .before .before .loop .k) (c .before .before .before .before .args .input .now)) (simp length-drop (omega arith)))
+    (short (1028 - c .before .before .loop .k) (drop (4 * c .before .before .loop .k)
+    (c .before .before .before .before .args .input .now)) (simp length-drop (omega arith)))
     (c .before .before .loop .inv .2)
 
 mul-word-at : tie.Need-mul-word-at Inv-loop μ-loop
@@ -55,7 +56,9 @@ loop-again : tie.Need-loop-again Inv-loop μ-loop
 loop-again c = (
   search needs,
   simp length-set (search needs),
-  rw (c .word-at .ensures) (taken (c .before .before .before .before .before .args .input .now) (c .before .before .before .loop .words) (c .before .before .before .loop .k) (omega arith) (omega arith) (omega arith) ∙ c .before .before .before .loop .inv .2),
+  rw (c .word-at .ensures) (taken (c .before .before .before .before .before .args .input .now)
+      (c .before .before .before .loop .words) (c .before .before .before .loop .k) (omega arith) (omega arith) (omega arith) ∙
+      c .before .before .before .loop .inv .2),
 )
 
 returns-2 : tie.Need-returns-2 Inv-loop μ-loop
