@@ -64,6 +64,9 @@
  * on success only, and only as far as each call says; further words of it hold
  * what they held. A refused call writes nothing.
  *
+ * STACK. A call uses up to 40 KB of its caller's stack, as measured on x86-64;
+ * that there is room is not proved. Give a thread that calls 64 KB at least.
+ *
  * THE SEQUENCE OF REFUSALS. The words of the book are tested from the first
  * on, at one word in the sequence CUT, KIND, FULL, RANGE, TWICE, COUNT. Then
  * come TAIL, DISORDER (in the profile CROSSED), NOT_POSTING, UNLISTED, NARROW,

@@ -25,5 +25,6 @@ pub record Sound (g : Planning) : Type 0 where
 pub posted : (n : ℕ) (posting : List ℕ) → (postingTests n posting ≡ tested.Passed) ↔ OrderOf (countFrom 1 n) posting
 posted n posting = (
   λ e. orders-perm n (countFrom 1 n) posting (length-count 1 n) (posting-order n posting (length-count 1 n) e),
-  λ o. let t = perm-orders n (countFrom 1 n) posting (length-count 1 n) o in order-posting n posting (orders-length n (countFrom 1 n) posting t) t,
+  λ o. let t = perm-orders n (countFrom 1 n) posting (length-count 1 n) o in
+      order-posting n posting (orders-length n (countFrom 1 n) posting t) t,
 )

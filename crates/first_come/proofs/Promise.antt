@@ -58,7 +58,8 @@ module _ (book : List ℕ) (day : Day) (e : readBy firstCome book ≡ accepted d
   outcome-same : listOutcome (planningOf FirstCome day) b ≡ listOutcome (planningOf Ordering day) b
   outcome-same = step (decLe (2 * length (rowNumbers day)) (length b))
     where
-      step : Dec (2 * length (rowNumbers day) ≤ length b) → listOutcome (planningOf FirstCome day) b ≡ listOutcome (planningOf Ordering day) b
+      step : Dec (2 * length (rowNumbers day) ≤ length b) →
+          listOutcome (planningOf FirstCome day) b ≡ listOutcome (planningOf Ordering day) b
       step (yes h) =
           list-is (planningOf FirstCome day) b h ∙
           ap (λ (ps : List Pair). gives (list-answer.Plans (length ps)) (written (planWords ps) b)) plans-same ∙

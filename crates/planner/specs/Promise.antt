@@ -1,5 +1,5 @@
--- The calls by the ordering rule: what they are told, and that the three properties hold of them. The properties are in promises/specs/Promise;
--- the proofs are `lent-memory`, `definitions-hold` and `cover-holds`, in proofs/Promise.antt.
+-- The calls by the ordering rule: what they are told. The three properties (promises/specs/Promise) hold of them: `lent-memory`,
+-- `definitions-hold` and `cover-holds`, in proofs/Promise.antt.
 --
 -- The contract of each offered function says that its answer and its buffer at exit are those of its call (list, order_for_bound,
 -- order_of_plan, verdict: Calls; row_place, row_words: Places of row_calls) by these terms, whatever it is lent and told. So what the

@@ -34,7 +34,8 @@ unfolding outlasts
 outlasts-says r s = (
   λ t. let u = parts (ltb (r .release) (s .release)) (ltb (s .due) (r .due)) t in
       (ltb→lt (r .release) (s .release) (u .0), ltb→lt (s .due) (r .due) (u .1)),
-  λ h. both (ltb (r .release) (s .release)) (ltb (s .due) (r .due)) (lt→ltb (r .release) (s .release) (h .0)) (lt→ltb (s .due) (r .due) (h .1)),
+  λ h. both (ltb (r .release) (s .release)) (ltb (s .due) (r .due)) (lt→ltb (r .release) (s .release) (h .0))
+      (lt→ltb (s .due) (r .due) (h .1)),
 )
 
 -- One of two tests, as one of two statements.

@@ -22,7 +22,8 @@ use Rattle.calls.specs.Calls.{judgedOf, listOutcome, orderOutcome, planOutcome,
 use Rattle.calls.specs.Planning.{gives, nth, Planning}
 use Rattle.calls.proofs.Sound.{Sound, posted}
 use Rattle.calls.proofs.CallLaws.{list-is, plan-is, verdict-is, order-some, order-none}
-use Rattle.promises.specs.Vocabulary.{told, saidCount, saidPair, saidJudged, listed, ReaderOrder, endBy, lateBy, pairBy, NoneBeats, EndsSooner, LessLate}
+use Rattle.promises.specs.Vocabulary.{told, saidCount, saidPair, saidJudged, listed, ReaderOrder, endBy, lateBy, pairBy}
+use Rattle.promises.specs.Vocabulary.{NoneBeats, EndsSooner, LessLate}
 use Rattle.promises.specs.Promise.{Covered, PlanOrders, NamesSooner, ListsLess, Judged, BoundAnswered, kept, unkept}
 use Rattle.promises.proofs.Listed.{signed-back, plans-back, First, first-beating, mem-elem, elem-mem, nth-mem, later-ends}
 

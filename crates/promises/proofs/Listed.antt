@@ -24,13 +24,15 @@ pub signed-back : (z : ℤ) → up z ≤ 2147483647 + down z → down z ≤ up z
 unfolding signed complement
 signed-back (pos n) h k = ap (λ (c : Bool). cond c (pos n) (negsuc (4294967295 - n))) (lt-ltb n 2147483648 (omega arith))
 signed-back (negsuc n) h k =
-    ap (λ (c : Bool). cond c (pos (4294967295 - n)) (negsuc (4294967295 - (4294967295 - n)))) (le-ltb (4294967295 - n) 2147483648 (omega arith)) ∙ ap negsuc (omega arith)
+    ap (λ (c : Bool). cond c (pos (4294967295 - n)) (negsuc (4294967295 - (4294967295 - n))))
+    (le-ltb (4294967295 - n) 2147483648 (omega arith)) ∙ ap negsuc (omega arith)
 
 pub plans-back : (ps : List Pair) (rest : List ℕ) → ((p : Pair) → List·Memᴰ p ps → signed (complement (p .late)) ≡ p .late) →
     plansIn (length ps) (planWords ps ++ rest) ≡ ps
 unfolding plansIn planWords
 plans-back [] rest h = refl
-plans-back (p ∷ ps) rest h = λ i. record { end = p .end; late = h p (List·Memᴰ·head refl) i } ∷ plans-back ps rest (λ q m. h q (List·Memᴰ·tail m)) i
+plans-back (p ∷ ps) rest h = λ i.
+    record { end = p .end; late = h p (List·Memᴰ·head refl) i } ∷ plans-back ps rest (λ q m. h q (List·Memᴰ·tail m)) i
 
 -- The first listed plan that beats a pair, with its place on the list; or none does.
 abbrev pub First : ℕ → List Pair → Pair → Option ℕ → Type 0

@@ -32,7 +32,10 @@ module _ (n : ℕ) (posting : List ℕ) where
   seen-none i = (λ t. let z : T false = subst T (stands-none i) t in absurd z, λ u. let z : ⊥ = omega (arith, u .1) in absurd z)
 
   seen-more : (s : List ℕ) (k : ℕ) → Seen s k → Seen (entry k ∷ s) (suc k)
-  seen-more s k h i = (λ t. there (or-cases (eqb i (entry k)) (stands i s) (subst T (stands-more i (entry k) s) t)), λ u. back u (ℕ-discrete (u .0) k))
+  seen-more s k h i = (
+    λ t. there (or-cases (eqb i (entry k)) (stands i s) (subst T (stands-more i (entry k) s) t)),
+    λ u. back u (ℕ-discrete (u .0) k),
+  )
     where
       there : T (eqb i (entry k)) ⊎ T (stands i s) → (q : ℕ) × (q < suc k) × (entry q ≡ i)
       there (inl t) = (k, omega arith, sym (eqb→eq i (entry k) t))

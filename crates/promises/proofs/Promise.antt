@@ -180,22 +180,26 @@ module _ (terms : Terms) where
       given : Given terms book day
       given = record {
         of-list = given-list;
-        of-bound = λ y b order h e. ap (told saidOrder) (bound-of terms book day reads y b ∙ order-some g y b (omega (arith, count)) order e);
+        of-bound = λ y b order h e.
+            ap (told saidOrder) (bound-of terms book day reads y b ∙ order-some g y b (omega (arith, count)) order e);
         of-plan = λ k p b e. ap (told saidOrder)
             (plan-of terms book day reads k b ∙ plan-front g safe k p b e ∙ sym (bound-of terms book day reads (p .late) b));
-        of-verdict = λ posting o. ap saidVerdict (verdict-of terms book day reads posting) ∙ verdict-front g safe posting (length (day .rows)) refl o;
+        of-verdict = λ posting o.
+            ap saidVerdict (verdict-of terms book day reads posting) ∙ verdict-front g safe posting (length (day .rows)) refl o;
         of-row = given-row;
         ranges = ranges (accepted-day terms book day reads);
       }
 
       keeps : Cover terms book day
       keeps = record {
-        covered = λ b h. rw (list-of terms book day reads b) (covered g safe b (omega (arith, count)));
-        plan-orders = λ b h k p c. rw (list-of terms book day reads b, plan-of terms book day reads k c)
-            (plan-orders g safe b (omega (arith, count)) k p c);
+        lists = λ b h. record {
+          covered = rw (list-of terms book day reads b) (covered g safe b (omega (arith, count)));
+          plan-orders = λ k p c. rw (list-of terms book day reads b, plan-of terms book day reads k c)
+              (plan-orders g safe b (omega (arith, count)) k p c);
+          verdicts = λ posted o. rw (list-of terms book day reads b, verdict-of terms book day reads posted)
+              (judged g safe posted (length (day .rows)) refl o b (omega (arith, count)));
+        };
         bounds = λ y c h. rw (bound-of terms book day reads y c) (bound-answered g safe y c (omega (arith, count)));
-        verdicts = λ b h posted o. rw (list-of terms book day reads b, verdict-of terms book day reads posted)
-            (judged g safe posted (length (day .rows)) refl o b (omega (arith, count)));
       }
 
   pub lent-memory : Property1 terms

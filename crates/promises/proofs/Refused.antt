@@ -37,7 +37,8 @@ use Rattle.calls.specs.Calls.{judgedOf, listOutcome, orderOutcome, planOutcome,
 use Rattle.calls.specs.Planning.{nth, Planning}
 use Rattle.calls.proofs.Sound.{Sound}
 use Rattle.calls.proofs.Plans.{nth-in, nth-zero, nth-out}
-use Rattle.calls.proofs.CallLaws.{list-narrow, list-is, plan-is, plan-unlisted, verdict-no, verdict-is, order-narrow, order-some, order-none}
+use Rattle.calls.proofs.CallLaws.{list-narrow, list-is, plan-is, plan-unlisted, verdict-no, verdict-is}
+use Rattle.calls.proofs.CallLaws.{order-narrow, order-some, order-none}
 use Rattle.promises.specs.Vocabulary.{Refuses}
 use Rattle.promises.specs.Table as table
 use Rattle.promises.specs.Table.{Turned, by-book, by-call, ListTurned, BoundTurned, PlanTurned, VerdictTurned, RowTurned}
@@ -101,8 +102,11 @@ module _ (g : Planning) where
 
       step : Dec (2 * length (g .left) ≤ length b) →
           (n p : ℕ) → Refuses (saidList (listOutcome g b .answer)) n p ↔ ListTurned g b n p
-      step (yes h) = says-yes (saidList (listOutcome g b .answer)) (ListTurned g b) (ap (λ o. saidList (o .answer) .number) (list-is g b h)) (wide h)
-      step (no h) = says-no (saidList (listOutcome g b .answer)) (ListTurned g b) byNarrow 0 (omega arith) (ap (λ o. saidList (o .answer)) (list-narrow g b (omega arith)))
+      step (yes h) =
+          says-yes (saidList (listOutcome g b .answer)) (ListTurned g b) (ap (λ o. saidList (o .answer) .number) (list-is g b h)) (wide h)
+      step (no h) =
+          says-no (saidList (listOutcome g b .answer)) (ListTurned g b) byNarrow 0 (omega arith)
+          (ap (λ o. saidList (o .answer)) (list-narrow g b (omega arith)))
           (table.narrow (omega arith)) only
 
   module _ (s : Sound g) where
@@ -133,7 +137,8 @@ module _ (g : Planning) where
         step (yes h) = search h (g .orders y) refl
         step (no h) =
             let l : length b < length (g .left) = omega arith in
-            says-no (saidOrder (orderOutcome g y b .answer)) (BoundTurned g y b) byNarrow 0 (omega arith) (ap (λ o. saidOrder (o .answer)) (order-narrow g y b l))
+            says-no (saidOrder (orderOutcome g y b .answer)) (BoundTurned g y b) byNarrow 0 (omega arith)
+            (ap (λ o. saidOrder (o .answer)) (order-narrow g y b l))
             (table.narrow l) (narrow-only l)
 
     pub plan-turned : (k : ℕ) (b : List ℕ) (n p : ℕ) → Refuses (saidOrder (planOutcome g k b .answer)) n p ↔ PlanTurned g k b n p
@@ -206,8 +211,11 @@ module _ (g : Planning) where
       back : VerdictTurned (length (g .left)) posting n p → Refuses (saidVerdict (verdictOutcome g posting)) n p
       back t =
           let e = posting-turned (length (g .left)) posting n p .1 t in
-          let v = verdict-no g posting n p e in
-          (omega (arith, posting-number (length (g .left)) posting n p e), ap (λ v. saidVerdict v .number) v, ap (λ v. saidVerdict v .place) v)
+          let v = verdict-no g posting n p e in (
+            omega (arith, posting-number (length (g .left)) posting n p e),
+            ap (λ v. saidVerdict v .number) v,
+            ap (λ v. saidVerdict v .place) v,
+          )
 
 -- The call for a row of a day.
 pub row-at : (day : Day) (k : ℕ) → 1 ≤ k → k ≤ length (day .rows) → placeIn (accepted day) k ≡ At (numberWord k)
@@ -240,7 +248,9 @@ row-turned day k = step (decLe 1 k) (decLe k (length (day .rows)))
     only _ _ (table.unlisted f) = (refl, refl)
 
     out : ¬ ((1 ≤ k) × (k ≤ length (day .rows))) → Same
-    out d = says-no (saidPlace (placeIn (accepted day) k)) (RowTurned (length (day .rows)) k) byUnlisted (length (day .rows)) (omega arith) (row-out day k d) (table.unlisted d) only
+    out d =
+        says-no (saidPlace (placeIn (accepted day) k)) (RowTurned (length (day .rows)) k) byUnlisted (length (day .rows)) (omega arith)
+        (row-out day k d) (table.unlisted d) only
 
     inside : 1 ≤ k → k ≤ length (day .rows) → (n p : ℕ) → ¬ RowTurned (length (day .rows)) k n p
     inside f h _ _ (table.unlisted d) = d (f, h)
@@ -249,4 +259,5 @@ row-turned day k = step (decLe 1 k) (decLe k (length (day .rows)))
     step (no f) h = out (λ u. f (u .0))
     step (yes f) (no h) = out (λ u. h (u .1))
     step (yes f) (yes h) =
-        says-yes (saidPlace (placeIn (accepted day) k)) (RowTurned (length (day .rows)) k) (ap (λ (x : RowPlace). saidPlace x .number) (row-at day k f h)) (inside f h)
+        says-yes (saidPlace (placeIn (accepted day) k)) (RowTurned (length (day .rows)) k)
+        (ap (λ (x : RowPlace). saidPlace x .number) (row-at day k f h)) (inside f h)

@@ -56,8 +56,8 @@ pub record Property1 (terms : Terms) : Type 0 where
   -- A refused call for a row's words gives an empty part.
   pub of-row : (book : List ℕ) (k : ℕ) → 1 ≤ place terms book k .number →
       InTable (terms .profile) (place terms book k .number) × (words terms book k ≡ [])
-  -- "Up to 256 rows are taken." `Accepts` asks for no more of a book than that it is written from 1 to 256 rows in range with different
-  -- numbers, of which no two clash; and no call is then refused for the book or, lent a buffer of two words for each row, at all.
+  -- "Up to 256 rows are taken." `Accepts` asks no more of a book than that it is written from 1 to 256 rows in range with different
+  -- numbers, of which no two clash; such a book, whichever it is, is listed in any buffer of two words for each row.
   pub rows-taken : (book : List ℕ) (day : Day) → Accepts (terms .profile) book day → (b : List ℕ) →
       2 * length (day .rows) ≤ length b → list terms book b .answer .number ≡ 0
 
@@ -165,16 +165,20 @@ pub data BoundAnswered (planning : Planning) (y : ℤ) (c : List ℕ) (o : Outco
   unkept : ((order : List ℕ) → ReaderOrder planning order → ¬ (lateBy planning order ≤ℤ y)) → o ≡ gives (saidNo byUnkept 0) c →
       BoundAnswered planning y c o
 
--- Of the calls on a book that gives a day.
-pub record Cover (terms : Terms) (book : List ℕ) (day : Day) : Type 0 where
-  pub covered : (b : List ℕ) → 2 * length (day .rows) ≤ length b →
-      Covered (planningOf (terms .profile) day) (listed (list terms book b))
-  pub plan-orders : (b : List ℕ) → 2 * length (day .rows) ≤ length b →
-      PlanOrders (planningOf (terms .profile) day) (listed (list terms book b)) (plan terms book)
-  pub bounds : (y : ℤ) (c : List ℕ) → length (day .rows) ≤ length c →
-      BoundAnswered (planningOf (terms .profile) day) y c (bound terms book y c)
-  pub verdicts : (b : List ℕ) → 2 * length (day .rows) ≤ length b → (posted : List ℕ) → OrderOf (rowNumbers day) posted →
-      Judged (planningOf (terms .profile) day) (listed (list terms book b)) posted (verdict terms book posted)
+-- Of the calls on a book that gives a day, `planned`.
+module _ (terms : Terms) (book : List ℕ) (day : Day) where
+  abbrev pub planned : Planning
+  planned = planningOf (terms .profile) day
+
+  -- L are the plans that the list writes into a buffer.
+  pub record CoverIn (L : List Pair) : Type 0 where
+    pub covered : Covered planned L
+    pub plan-orders : PlanOrders planned L (plan terms book)
+    pub verdicts : (posted : List ℕ) → ReaderOrder planned posted → Judged planned L posted (verdict terms book posted)
+
+  pub record Cover : Type 0 where
+    pub lists : (b : List ℕ) → 2 * length (day .rows) ≤ length b → CoverIn (listed (list terms book b))
+    pub bounds : (y : ℤ) (c : List ℕ) → length (day .rows) ≤ length c → BoundAnswered planned y c (bound terms book y c)
 
 abbrev pub Property3 : Terms → Type 0
 Property3 terms = (book : List ℕ) (day : Day) → Accepts (terms .profile) book day → Cover terms book day
