@@ -49,13 +49,17 @@ unfoldable pub numberFields : List ℕ → List ℕ
 numberFields [] = []
 numberFields (n ∷ ns) = field (32 ∷ []) n ++ numberFields ns
 
+-- A line of two fields.
+abbrev pub twoFields : (first : List ℕ) (number : ℕ) (second : List ℕ) (other : ℕ) → List ℕ
+twoFields first number second other = field first number ++ field second other ++ newline
+
 -- `refused N at P`
-unfoldable pub refusedLine : ℕ → ℕ → List ℕ
-refusedLine number place = field refusedWord number ++ field atWord place ++ newline
+abbrev pub refusedLine : ℕ → ℕ → List ℕ
+refusedLine number place = twoFields refusedWord number atWord place
 
 -- `rows R plans P`
-unfoldable pub rowsLine : ℕ → ℕ → List ℕ
-rowsLine rows plans = field rowsWord rows ++ field plansWord plans ++ newline
+abbrev pub rowsLine : ℕ → ℕ → List ℕ
+rowsLine rows plans = twoFields rowsWord rows plansWord plans
 
 -- `plan K end E late L order N N ..`
 unfoldable pub planLine : ℕ → ℕ → ℤ → List ℕ → List ℕ
@@ -63,5 +67,5 @@ planLine plan end late numbers = field planWord plan ++ field endWord end ++ lat
 
 -- Opens every definition of this file: name it on an `unfolding` line where all is to be computed.
 unfoldable pub openLineBytes : Unit {0}
-unfolding lateField numberFields refusedLine rowsLine planLine
+unfolding lateField numberFields planLine
 openLineBytes = tt

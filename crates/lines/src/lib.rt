@@ -4,7 +4,7 @@ ghost use Prim.Native.Nat.{_+_, _*_, _≤_};
 ghost use lib.ListN.{length};
 ghost use Rattle.schedule.specs.Limits.{mostRows};
 ghost use Rattle.results.specs.Results.{signed};
-ghost use Rattle.lines.specs.LineBytes.{field, lateField, numberFields, refusedLine, rowsLine, planLine};
+ghost use Rattle.lines.specs.LineBytes.{field, lateField, numberFields, twoFields, refusedLine, rowsLine, planLine};
 ghost use Rattle.lines.specs.Added.{Added};
 
 // Bytes.
@@ -59,14 +59,30 @@ fn put_numbers(sheet: &mut [u8], at: usize, numbers: &[u32]) -> usize
     end
 }
 
+// A line of two fields.
+fn put_two(
+    sheet: &mut [u8],
+    at: usize,
+    first: &[u8],
+    number: u64,
+    second: &[u8],
+    other: u64,
+) -> usize
+    requires { ⌜ at + (length (now first) + length (now second) + 41) ≤ length (now sheet) ⌝ }
+    ensures { λ r. ⌜ Added r at (length (now (first .entry)) + length (now (second .entry)) + 41) (now (sheet .entry))
+        (twoFields (now (first .entry)) number (now (second .entry)) other) (now (sheet .exit)) ⌝ }
+{
+    let mut end = put_field(sheet, at, first, number);
+    end = put_field(sheet, end, second, other);
+    put(sheet, end, b"\n")
+}
+
 // The line of a refusal.
 pub fn refused_line(sheet: &mut [u8], at: usize, number: u32, place: usize) -> usize
     requires { ⌜ at + 53 ≤ length (now sheet) ⌝ }
     ensures { λ r. ⌜ Added r at 53 (now (sheet .entry)) (refusedLine number place) (now (sheet .exit)) ⌝ }
 {
-    let mut end = put_field(sheet, at, b"refused ", number as u64);
-    end = put_field(sheet, end, b" at ", place as u64);
-    put(sheet, end, b"\n")
+    put_two(sheet, at, b"refused ", number as u64, b" at ", place as u64)
 }
 
 // The line that counts rows and plans.
@@ -74,9 +90,7 @@ pub fn rows_line(sheet: &mut [u8], at: usize, rows: usize, plans: usize) -> usiz
     requires { ⌜ at + 53 ≤ length (now sheet) ⌝ }
     ensures { λ r. ⌜ Added r at 53 (now (sheet .entry)) (rowsLine rows plans) (now (sheet .exit)) ⌝ }
 {
-    let mut end = put_field(sheet, at, b"rows ", rows as u64);
-    end = put_field(sheet, end, b" plans ", plans as u64);
-    put(sheet, end, b"\n")
+    put_two(sheet, at, b"rows ", rows as u64, b" plans ", plans as u64)
 }
 
 // The line of a plan.
