@@ -3,4 +3,3 @@ pub mod Tables
 pub mod Reached
 pub mod Whole
 pub mod Readings
-pub mod Numbered

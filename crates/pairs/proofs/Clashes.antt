@@ -6,7 +6,7 @@ use native.Mathlib.Omega.{arith}
 use native.Mathlib.Decide.{decLe}
 use mathlib.Core.Bool.{Bool, true, false, _||_}
 use mathlib.Core.Path.{_≡_, refl, sym, subst, _∙_}
-use mathlib.Core.List.{List, [], _∷_, _++_}
+use mathlib.Core.List.{List, [], _∷_}
 use lib.ListN.{length, take, getD, length-take}
 use lib.Seq.{getD-take}
 use Rattle.schedule.specs.declared.Row.{Row}
@@ -15,8 +15,8 @@ use Rattle.schedule.proofs.Numbers.{count-range, from-mem}
 use Rattle.schedule.proofs.Tests.{neither}
 use Rattle.refusals.specs.declared.Tested.{Tested}
 use Rattle.refusals.specs.declared.Tested.the-variants.{Passed, Refused}
-use Rattle.refusals.proofs.Tests.{never, Says, if-says, then-says}
-use Rattle.pairs.specs.Pairs.{someEntry, pairTestsFrom, pairTests}
+use Rattle.refusals.proofs.Tests.{never}
+use Rattle.pairs.specs.Pairs.{someEntry, pairTests}
 use Rattle.pairs.specs.Clashes.{Mutual, NoneClash, Earliest, PairsSettled, PairsSettle, unclashing, clashing}
 use Rattle.pairs.proofs.Scans.{pairsAt, pairs-here, pairs-on, pairs-end}
 
@@ -143,12 +143,3 @@ module _ {clash : Row → Row → Bool} (ways : Mutual clash) (number : ℕ) (ro
           let none : clash (row rows k) (row rows j) ≡ false = h k j m n in
           let some = e .clashes in
           never (cc)
-
--- A refusal has the test's number.
-pub pairs-number : (clash : Row → Row → Bool) (number place : ℕ) (above rows : List Row) →
-    Says (λ (n : ℕ). n ≡ number) (pairTestsFrom clash number place above rows)
-unfolding pairTestsFrom
-pairs-number clash number place above [] = tt
-pairs-number clash number place above (r ∷ rows) =
-    then-says (λ (n : ℕ). n ≡ number) _ _ (if-says (λ (n : ℕ). n ≡ number) number _ _ refl)
-    (pairs-number clash number (place + 4) (above ++ (r ∷ [])) rows)

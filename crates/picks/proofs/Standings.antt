@@ -16,7 +16,8 @@ use Rattle.picks.specs.Standing.{Tables, Stands, Late}
 use Rattle.picks.proofs.Bits.{mark-same, mark-other}
 use Rattle.picks.proofs.Rests.{kept-without, other-without, distinct-without}
 
-module _ {n : ℕ} {job : ℕ → Job} {by : ℕ → ℕ} (r : Tables n job by) {t : ℕ} {rest : List ℕ} {next : ℕ} {ws : List ℕ} (s : Stands n job by t rest next ws) where
+module _ {n : ℕ} {job : ℕ → Job} {by : ℕ → ℕ} (r : Tables n job by) {t : ℕ} {rest : List ℕ} {next : ℕ} {ws : List ℕ}
+    (s : Stands n job by t rest next ws) where
   -- The set is without 0.
   pub no-zero : s .set 0 ≡ false
   no-zero = go (s .set 0) refl
@@ -34,7 +35,8 @@ module _ {n : ℕ} {job : ℕ → Job} {by : ℕ → ℕ} (r : Tables n job by) 
       go (inr x) = omega (arith, x .1)
 
   -- The row i of the set is taken out.
-  unfoldable pub stands-away : {i : ℕ} → s .set i ≡ true → {less : List ℕ} → Words (mark i false (s .set)) less → Stands n job by t (without i rest) next less
+  unfoldable pub stands-away : {i : ℕ} → s .set i ≡ true → {less : List ℕ} → Words (mark i false (s .set)) less → Stands n job by t
+      (without i rest) next less
   stands-away {i} e w = record {
     set = mark i false (s .set);
     words = w;
@@ -42,7 +44,8 @@ module _ {n : ℕ} {job : ℕ → Job} {by : ℕ → ℕ} (r : Tables n job by) 
     rows = λ j m. s .rows j (mem-without i rest m);
     on = λ j f. on j f (ℕ-discrete j i);
     off = λ j m f. s .off j (mem-without i rest m) (sym (mark-other i false (s .set) j (other-without i rest (s .distinct) m)) ∙ f);
-    ahead = λ k h g. let a = s .ahead k h g in (kept-without (by k) i rest (a .0) (unlike k (a .1)), mark-other i false (s .set) (by k) (unlike k (a .1)) ∙ a .1);
+    ahead = λ k h g. let a = s .ahead k h g in
+        (kept-without (by k) i rest (a .0) (unlike k (a .1)), mark-other i false (s .set) (by k) (unlike k (a .1)) ∙ a .1);
     place = s .place;
   }
     where
@@ -67,19 +70,26 @@ module _ {n : ℕ} {job : ℕ → Job} {by : ℕ → ℕ} (r : Tables n job by) 
       words = s .words;
       distinct = distinct-without (by next) rest (s .distinct);
       rows = λ j m. s .rows j (mem-without (by next) rest m);
-      on = λ j f. let a = s .on j f in (kept-without j (by next) rest (a .0) (λ x. false-is-true (sym next-off ∙ (ap (s .set) (sym x) ∙ f))), a .1);
+      on = λ j f. let a = s .on j f in (
+        kept-without j (by next) rest (a .0)
+            (λ x. false-is-true (sym next-off ∙ (ap (s .set) (sym x) ∙ f))),
+        a .1,
+      );
       off = λ j m f. off j m (s .off j (mem-without (by next) rest m) f);
-      ahead = λ k g l. let a = s .ahead k (omega arith) l in (kept-without (by k) (by next) rest (a .0) (λ x. rows-differ next k (omega arith) l (sym x)), a .1);
+      ahead = λ k g l. let a = s .ahead k (omega arith) l in
+          (kept-without (by k) (by next) rest (a .0) (λ x. rows-differ next k (omega arith) l (sym x)), a .1);
       place = omega arith;
     }
       where
-        off : (j : ℕ) → List·Memᴰ j (without (by next) rest) → (k : ℕ) × (next ≤ k) × (k < n) × (by k ≡ j) → (k : ℕ) × (next + 1 ≤ k) × (k < n) × (by k ≡ j)
+        off : (j : ℕ) → List·Memᴰ j (without (by next) rest) → (k : ℕ) × (next ≤ k) × (k < n) × (by k ≡ j) → (k : ℕ) × (next + 1 ≤ k) ×
+            (k < n) × (by k ≡ j)
         off j m (k, g, l, e) =
             let v : k ≡ next → ⊥ = λ x. other-without (by next) rest (s .distinct) m (sym e ∙ ap by x) in
             (k, omega arith, l, e)
 
     -- or is put into the set.
-    pub stands-put : job (by next) .release ≤ t → {more : List ℕ} → Words (mark (by next) true (s .set)) more → Stands n job by t rest (next + 1) more
+    pub stands-put : job (by next) .release ≤ t → {more : List ℕ} → Words (mark (by next) true (s .set)) more → Stands n job by t rest
+        (next + 1) more
     stands-put g w = record {
       set = mark (by next) true (s .set);
       words = w;
@@ -87,7 +97,8 @@ module _ {n : ℕ} {job : ℕ → Job} {by : ℕ → ℕ} (r : Tables n job by) 
       rows = s .rows;
       on = λ j f. on j f (ℕ-discrete j (by next));
       off = λ j m f. off j m f (ℕ-discrete j (by next));
-      ahead = λ k u v. let a = s .ahead k (omega arith) v in (a .0, mark-other (by next) true (s .set) (by k) (λ x. rows-differ next k (omega arith) v (sym x)) ∙ a .1);
+      ahead = λ k u v. let a = s .ahead k (omega arith) v in
+          (a .0, mark-other (by next) true (s .set) (by k) (λ x. rows-differ next k (omega arith) v (sym x)) ∙ a .1);
       place = omega arith;
     }
       where
@@ -97,7 +108,8 @@ module _ {n : ℕ} {job : ℕ → Job} {by : ℕ → ℕ} (r : Tables n job by) 
             (subst (λ (z : ℕ). List·Memᴰ z rest) (sym x) (s .ahead next (omega arith) h .0), omega arith)
         on j f (no v) = s .on j (sym (mark-other (by next) true (s .set) j v) ∙ f)
 
-        off : (j : ℕ) → List·Memᴰ j rest → mark (by next) true (s .set) j ≡ false → Dec (j ≡ by next) → (k : ℕ) × (next + 1 ≤ k) × (k < n) × (by k ≡ j)
+        off : (j : ℕ) → List·Memᴰ j rest → mark (by next) true (s .set) j ≡ false → Dec (j ≡ by next) → (k : ℕ) × (next + 1 ≤ k) ×
+            (k < n) × (by k ≡ j)
         off j m f (yes x) = false-is-true (sym f ∙ (ap (mark (by next) true (s .set)) x ∙ mark-same (by next) true (s .set)))
         off j m f (no v) =
             let a = s .off j m (sym (mark-other (by next) true (s .set) j v) ∙ f) in
@@ -112,7 +124,8 @@ module _ {n : ℕ} {job : ℕ → Job} {by : ℕ → ℕ} (r : Tables n job by) 
         go (yes e) = let x = ap (λ (y : ℕ). job (by y) .release) e in omega arith
         go (no e) = cases (r .by-release .sorted next k (omega arith) v)
           where
-            cases : (job (by next) .release < job (by k) .release) ⊎ ((job (by next) .release ≡ job (by k) .release) × (by next < by k)) → t < job (by k) .release
+            cases : (job (by next) .release < job (by k) .release) ⊎ ((job (by next) .release ≡ job (by k) .release) × (by next < by k)) →
+                t < job (by k) .release
             cases (inl x) = omega arith
             cases (inr x) = omega (arith, x .0)
 

@@ -36,7 +36,8 @@ pub marks-more : (seen : List Bool) (s : List ℕ) (k : ℕ) → k < length seen
 marks-more seen s k h m i = go (ℕ-discrete i k) ∙ sym (stands-more i k s)
   where
     go : Dec (i ≡ k) → getD (set seen k true) i false ≡ (eqb i k || stands i s)
-    go (yes e) = subst (λ (j : ℕ). getD (set seen k true) j false ≡ (eqb j k || stands j s)) (sym e) (getD-set-same seen k true false h ∙ rw (eq-eqb k k refl) refl)
+    go (yes e) = subst (λ (j : ℕ). getD (set seen k true) j false ≡ (eqb j k || stands j s)) (sym e)
+        (getD-set-same seen k true false h ∙ rw (eq-eqb k k refl) refl)
     go (no e) = getD-set-other seen k i true false e ∙ (m i ∙ rw (ne-eqb i k e) refl)
 
 -- One entry's test: no row, past the last, or marked.

@@ -15,11 +15,11 @@ use Rattle.schedule.proofs.Orders.{one, count, count-mem, count-without, length
 use Rattle.schedule.proofs.Numbers.{count-range, from-mem, count-once}
 use Rattle.schedule.proofs.Tests.{nor, nor-both, is-false}
 use Rattle.schedule.proofs.Stands.{stands-none, stands-more}
-use Rattle.refusals.specs.declared.Tested.the-variants.{Passed, Refused}
+use Rattle.refusals.specs.declared.Tested.the-variants.{Passed}
 use Rattle.refusals.specs.Refusals.{byNotPosting}
 use Rattle.refusals.specs.Tests.{refuseIf}
 use Rattle.schedule.specs.Rows.{stands}
-use Rattle.refusals.proofs.Tests.{then-left, then-right, then-passes, not-refused, Says, if-says, then-says}
+use Rattle.refusals.proofs.Tests.{then-left, then-right, then-passes, not-refused}
 use Rattle.postings.specs.Posting.{entryTests, postingTests}
 
 not-eqb : (m n : ℕ) → ¬ (m ≡ n) → T (not (eqb m n))
@@ -64,8 +64,14 @@ record Left (n : ℕ) (seen left : List ℕ) : Type 0 where
 
 left-next : (n : ℕ) (seen left : List ℕ) (i : ℕ) → Left n seen left → List·Memᴰ i left → Left n (i ∷ seen) (without i left)
 left-next n seen left i h m = record {
-  all = λ k p q t. let s = nor-both (eqb k i) (stands k seen) (subst (λ (b : Bool). T (not b)) (stands-more k i seen) t) in mem-other i left (eqb-not k i (s .0)) (h .all k p q (s .1));
-  row = λ k g. let r = h .row k (below g) in (r .0, r .1, rw (stands-more k i seen) (nor (eqb k i) (stands k seen) (not-eqb k i (λ e. gone (subst (λ (x : ℕ). List·Memᴰ x (without i left)) e g))) (r .2)));
+  all = λ k p q t. let s = nor-both (eqb k i) (stands k seen) (subst (λ (b : Bool). T (not b)) (stands-more k i seen) t) in
+      mem-other i left (eqb-not k i (s .0)) (h .all k p q (s .1));
+  row = λ k g. let r = h .row k (below g) in (
+    r .0,
+    r .1,
+    rw (stands-more k i seen) (nor (eqb k i) (stands k seen)
+        (not-eqb k i (λ e. gone (subst (λ (x : ℕ). List·Memᴰ x (without i left)) e g))) (r .2)),
+  );
   once = λ k. omega (arith, h .once k, count-without i left m k);
 }
   where
@@ -82,12 +88,14 @@ unfolding entryTests
 entries-order n seen place [] left h l p = unfold ordersOf in List·Memᴰ·head refl
 entries-order n seen place (i ∷ is) left h l p =
     let stray = eqb i 0 || ltb n i || stands i seen in
-    let q = not-refused stray byNotPosting place (then-left (refuseIf stray byNotPosting place) (entryTests n (i ∷ seen) (place + 1) is) p) in
+    let q = not-refused stray byNotPosting place
+    (then-left (refuseIf stray byNotPosting place) (entryTests n (i ∷ seen) (place + 1) is) p) in
     let r = nor-both (eqb i 0 || ltb n i) (stands i seen) (is-false stray q) in
     let s = nor-both (eqb i 0) (ltb n i) (r .0) in
     let m = h .all i (positive i (eqb-not i 0 (s .0))) (nltb→le n i (s .1)) (r .1) in
     orders-make (length is) left i is m
-    (entries-order n (i ∷ seen) (place + 1) is (without i left) (left-next n seen left i h m) (omega (arith, length-without i left m)) (then-right (refuseIf stray byNotPosting place) (entryTests n (i ∷ seen) (place + 1) is) p))
+    (entries-order n (i ∷ seen) (place + 1) is (without i left) (left-next n seen left i h m) (omega (arith, length-without i left m))
+    (then-right (refuseIf stray byNotPosting place) (entryTests n (i ∷ seen) (place + 1) is) p))
   where
     positive : (i : ℕ) → ¬ (i ≡ 0) → 0 < i
     positive zero g = absurd (g refl)
@@ -110,14 +118,22 @@ order-entries n seen place (suc k) (i ∷ is) left h m =
     let e : i ≡ c .0 = head-eq-of-cons-eq (c .4) in
     let g : List·Memᴰ i left = subst (λ (x : ℕ). List·Memᴰ x left) (sym e) (c .2) in
     let f : List·Memᴰ is (ordersOf k (without i left)) =
-    subst (λ (x : ℕ). List·Memᴰ is (ordersOf k (without x left))) (sym e) (subst (λ (o : List ℕ). List·Memᴰ o (ordersOf k (without (c .0) left))) (sym (tail-eq-of-cons-eq (c .4))) (c .3)) in
+    subst (λ (x : ℕ). List·Memᴰ is (ordersOf k (without x left))) (sym e)
+    (subst (λ (o : List ℕ). List·Memᴰ o (ordersOf k (without (c .0) left))) (sym (tail-eq-of-cons-eq (c .4))) (c .3)) in
     let r = h .row i g in
-    then-passes (eqb i 0 || ltb n i || stands i seen) byNotPosting place (entryTests n (i ∷ seen) (place + 1) is) (nor (eqb i 0 || ltb n i) (stands i seen)
-    (nor (eqb i 0) (ltb n i) (not-eqb i 0 (λ z. omega (arith, r .0))) (not-T (ltb n i) (λ t. let l : n < i = ltb→lt n i t in omega (arith, r .1)))) (r .2))
+    then-passes (eqb i 0 || ltb n i || stands i seen) byNotPosting place (entryTests n (i ∷ seen) (place + 1) is)
+    (nor (eqb i 0 || ltb n i) (stands i seen)
+    (nor (eqb i 0) (ltb n i) (not-eqb i 0 (λ z. omega (arith, r .0)))
+    (not-T (ltb n i) (λ t. let l : n < i = ltb→lt n i t in omega (arith, r .1)))) (r .2))
     (order-entries n (i ∷ seen) (place + 1) k is (without i left) (left-next n seen left i h g) f)
 
 left-all : (n : ℕ) → Left n [] (countFrom 1 n)
-left-all n = record { all = λ k p q t. from-mem k 1 n p (omega arith); row = λ k m. let r = count-range 1 n m in (r .0, omega (arith, r .1), rw (stands-none k) tt); once = λ k. count-once k 1 n }
+left-all n = record {
+  all = λ k p q t. from-mem k 1 n p (omega arith);
+  row = λ k m. let r = count-range 1 n m in
+      (r .0, omega (arith, r .1), rw (stands-none k) tt);
+  once = λ k. count-once k 1 n;
+}
 
 pub posting-order : (n : ℕ) (posting : List ℕ) → length (countFrom 1 n) ≡ n → postingTests n posting ≡ Passed →
     List·Memᴰ posting (ordersOf n (countFrom 1 n))
@@ -142,16 +158,3 @@ order-posting n posting l m =
     twice : (b : Bool) → T b → T (not (not b))
     twice true t = tt
     twice false t = t
-
--- What is no posting is refused with its own number.
-abbrev IsTen : ℕ → Type 0
-IsTen n = n ≡ byNotPosting
-
-ten-entries : (n : ℕ) (seen : List ℕ) (place : ℕ) (is : List ℕ) → Says IsTen (entryTests n seen place is)
-unfolding entryTests
-ten-entries n seen place [] = tt
-ten-entries n seen place (i ∷ is) = then-says IsTen _ _ (if-says IsTen byNotPosting _ place refl) (ten-entries n (i ∷ seen) (place + 1) is)
-
-pub posting-number : (n : ℕ) (posting : List ℕ) (m p : ℕ) → postingTests n posting ≡ Refused m p → m ≡ byNotPosting
-unfolding postingTests
-posting-number n posting m p e = subst (Says IsTen) e (then-says IsTen _ _ (if-says IsTen byNotPosting _ (min (length posting) n) refl) (ten-entries n [] 0 posting))

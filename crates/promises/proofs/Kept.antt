@@ -27,6 +27,16 @@ use Rattle.promises.specs.Vocabulary.{NoneBeats, EndsSooner, LessLate}
 use Rattle.promises.specs.Promise.{Covered, PlanOrders, NamesSooner, ListsLess, Judged, BoundAnswered, kept, unkept}
 use Rattle.promises.proofs.Listed.{signed-back, plans-back, First, first-beating, mem-elem, elem-mem, nth-mem, later-ends}
 
+-- Signed numbers in a row.
+le-trans : {a b c : ℤ} → a ≤ℤ b → b ≤ℤ c → a ≤ℤ c
+le-trans {a} {b} {c} h k = record { le = →leZ a c (omega (arith, leZ→ a b (h .le), leZ→ b c (k .le))) }
+
+lt-trans : {a b c : ℤ} → a ≤ℤ b → b <ℤ c → a <ℤ c
+lt-trans {a} {b} {c} h k = record { lt = →ltZ a c (omega (arith, leZ→ a b (h .le), ltZ→ b c (k .lt))) }
+
+lt-le : {a b : ℤ} → a <ℤ b → a ≤ℤ b
+lt-le {a} {b} h = record { le = →leZ a b (omega (arith, ltZ→ a b (h .lt))) }
+
 module _ (g : Planning) (s : Sound g) where
   abbrev pub defined : List Pair
   defined = plans (g .job) (g .minute) (g .left)
@@ -94,15 +104,6 @@ module _ (g : Planning) (s : Sound g) where
   -- A listed plan is attained by some order of the rows.
   attained : (p : Pair) → List·Memᴰ p defined → (order : List ℕ) × ReaderOrder g order × (pairBy g order ≡ p)
   attained p m = let u = s .promise .belongs p .0 m .0 in (u .0, u .1 .0, u .1 .1)
-
-  le-trans : {a b c : ℤ} → a ≤ℤ b → b ≤ℤ c → a ≤ℤ c
-  le-trans {a} {b} {c} h k = record { le = →leZ a c (omega (arith, leZ→ a b (h .le), leZ→ b c (k .le))) }
-
-  lt-trans : {a b c : ℤ} → a ≤ℤ b → b <ℤ c → a <ℤ c
-  lt-trans {a} {b} {c} h k = record { lt = →ltZ a c (omega (arith, leZ→ a b (h .le), ltZ→ b c (k .lt))) }
-
-  lt-le : {a b : ℤ} → a <ℤ b → a ≤ℤ b
-  lt-le {a} {b} h = record { le = →leZ a b (omega (arith, ltZ→ a b (h .lt))) }
 
   -- A listed plan that covers an order, at its place on the list.
   record CoveredBy (other : List ℕ) : Type 0 where

@@ -3,6 +3,7 @@ pub mod Kept
 pub mod Clashes
 pub mod Accepted
 pub mod Posted
+pub mod Numbers
 pub mod Refused
 pub mod Memory
 pub mod Promise

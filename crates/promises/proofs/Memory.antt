@@ -1,57 +1,23 @@
--- Property 1 of the calls: numbers of the table, buffers kept on refusal, and buffers of the same length.
+-- Property 1 of the calls: buffers kept on refusal, and buffers of the same length.
 -- Assumes nothing.
 use Prim.Native.Nat.{ℕ, _*_, _≤_}
 use native.Mathlib.Omega.{arith}
 use native.Mathlib.Decide.{decLe}
-use mathlib.Core.Path.{_≡_, refl, sym, subst}
+use mathlib.Core.Path.{_≡_, refl}
 use mathlib.Core.List.{List}
 use mathlib.Core.Option.{Option, none, some}
 use lib.ListN.{length, length-append, length-drop}
 use lib.IntN.{ℤ}
-use Rattle.schedule.specs.declared.Profile.{Profile}
-use Rattle.schedule.specs.declared.Profile.the-variants.{Ordering, FirstCome}
-use Rattle.schedule.specs.Rows.{Day}
 use Rattle.schedule.specs.Desk.{Pair, pairOf}
 use Rattle.schedule.proofs.Orders.{perm-count}
 use Rattle.results.specs.Results.{written, planWords}
 use Rattle.results.proofs.ResultWords.{plan-length}
-use Rattle.grammar.specs.Words.{Wrong, cut, kind, range, twice, full, count, tail}
 use Rattle.calls.specs.Answers.{Said, saidNo, saidList, saidOrder}
 use Rattle.calls.specs.Calls.{listOutcome, orderOutcome, planOutcome}
 use Rattle.calls.specs.Planning.{Outcome, gives, nth, Planning}
 use Rattle.calls.proofs.Sound.{Sound}
 use Rattle.calls.proofs.CallLaws.{list-narrow, list-is, plan-is, plan-unlisted, order-narrow, order-some, order-none}
 use Rattle.promises.specs.Vocabulary.{told, saidCount, saidPair}
-use Rattle.promises.specs.Table.{BookRefused, by-word, disorder, crossed, Turned, by-book, by-call}
-use Rattle.promises.specs.Promise.{InTable}
-
--- The numbers that the conditions of a call tell are of the table.
-wrong-numbered : {book : List ℕ} {n p : ℕ} → Wrong book n p → (1 ≤ n) × (n ≤ 7)
-wrong-numbered (cut d) = (omega arith, omega arith)
-wrong-numbered (kind p d l w) = (omega arith, omega arith)
-wrong-numbered (range p d l w) = (omega arith, omega arith)
-wrong-numbered (twice i j d l k f e) = (omega arith, omega arith)
-wrong-numbered (full d l k) = (omega arith, omega arith)
-wrong-numbered (count n d a v) = (omega arith, omega arith)
-wrong-numbered (tail n d a l) = (omega arith, omega arith)
-
-up-to-7 : (profile : Profile) (n : ℕ) → (1 ≤ n) × (n ≤ 7) → InTable profile n
-up-to-7 Ordering n h = (h .0, omega (arith, h .1))
-up-to-7 FirstCome n h = (h .0, omega (arith, h .1), λ e. omega (arith, h .1))
-
-from-9 : (profile : Profile) (n : ℕ) → (9 ≤ n) × (n ≤ 12) → InTable profile n
-from-9 Ordering n h = (omega (arith, h .0), h .1)
-from-9 FirstCome n h = (omega (arith, h .0), omega (arith, h .1), λ e. omega (arith, h .0))
-
-book-numbered : {profile : Profile} {book : List ℕ} {n p : ℕ} → BookRefused profile book n p → InTable profile n
-book-numbered {profile} (by-word n p f) = up-to-7 profile n (wrong-numbered (f .wrong))
-book-numbered (disorder e day t k c) = subst (λ (x : Profile). InTable x 8) (sym e) (omega arith, omega arith)
-book-numbered (crossed e day t k c) = subst (λ (x : Profile). InTable x 13) (sym e) (omega arith, omega arith, λ e. omega arith)
-
-pub turned-numbered : {profile : Profile} {book : List ℕ} {Own : Day → (n p : ℕ) → Type 0} {n p : ℕ} →
-    ((day : Day) (n p : ℕ) → Own day n p → (9 ≤ n) × (n ≤ 12)) → Turned profile book Own n p → InTable profile n
-turned-numbered f (by-book r) = book-numbered r
-turned-numbered {profile} {book} {Own} {n} {p} f (by-call day a o) = from-9 profile n (f day n p o)
 
 -- What becomes of the buffer.
 pub record Kept (b : List ℕ) (o : Outcome Said) : Type 0 where

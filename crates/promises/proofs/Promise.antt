@@ -47,7 +47,7 @@ use Rattle.promises.proofs.Kept.{list-front, plan-front, covered, plan-
 use Rattle.promises.proofs.Accepted.{accepts}
 use Rattle.promises.proofs.Refused.{turned, list-turned, bound-turned, plan-turned, verdict-turned, row-at, row-turned}
 use Rattle.promises.proofs.Memory as memory
-use Rattle.promises.proofs.Memory.{turned-numbered}
+use Rattle.promises.proofs.Numbers.{turned-numbered}
 
 -- What is known of an accepted day.
 module _ {profile : Profile} {day : Day} (a : AcceptedDay profile day) where

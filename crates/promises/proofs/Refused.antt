@@ -6,14 +6,12 @@ use native.Mathlib.Decide.{decLe}
 use mathlib.Core.Bool.{Bool, true, false, cond, _||_}
 use mathlib.Core.Path.{_≡_, refl, sym, ap, _∙_, subst}
 use mathlib.Core.List.{List, List·Memᴰ}
-use mathlib.Core.Logic.{_⊎_, inl, inr, _↔_}
+use mathlib.Core.Logic.{_↔_}
 use mathlib.Core.Option.{Option, none, some, Option·none-ne-some}
 use lib.Dec.{ltb, eqb}
 use lib.ListN.{length, getD}
 use lib.IntN.{ℤ, pos}
 use borrow.Author.Tests.{lt-ltb, le-ltb, ne-eqb}
-use Rattle.schedule.specs.declared.Profile.{Profile}
-use Rattle.schedule.specs.declared.Profile.the-variants.{Ordering, FirstCome}
 use Rattle.schedule.specs.Rows.{Day}
 use Rattle.schedule.specs.Desk.{Pair, pairOf}
 use Rattle.schedule.specs.Plans.{firstBeating}
@@ -24,14 +22,11 @@ use Rattle.refusals.specs.Refusals.{byUnlisted, byNarrow, byUnkept}
 use Rattle.pairs.specs.Pairs.{numberWord}
 use Rattle.book.specs.Rows.{Contents, refused, accepted}
 use Rattle.readers.specs.declared.Terms.{Terms}
-use Rattle.readers.specs.Rules.{numberBy}
 use Rattle.readers.specs.Reads.{readBy}
-use Rattle.readers.proofs.Numbered.{refused-numbered}
 use Rattle.row_calls.specs.declared.RowPlace.{RowPlace}
 use Rattle.row_calls.specs.declared.RowPlace.the-variants.{At, Refused}
 use Rattle.row_calls.specs.Places.{placeIn}
 use Rattle.postings.specs.Posting.{postingTests}
-use Rattle.postings.proofs.Orders.{posting-number}
 use Rattle.calls.specs.Answers.{Said, saidNo, saidList, saidOrder, saidVerdict, saidPlace}
 use Rattle.calls.specs.Calls.{judgedOf, listOutcome, orderOutcome, planOutcome, verdictOutcome}
 use Rattle.calls.specs.Planning.{nth, Planning}
@@ -44,6 +39,7 @@ use Rattle.promises.specs.Table as table
 use Rattle.promises.specs.Table.{Turned, by-book, by-call, ListTurned, BoundTurned, PlanTurned, VerdictTurned, RowTurned}
 use Rattle.promises.proofs.Listed.{nth-mem}
 use Rattle.promises.proofs.Accepted.{accepts, book-refused}
+use Rattle.promises.proofs.Numbers.{from-1, book-numbered}
 use Rattle.promises.proofs.Posted.{posting-turned}
 
 -- A call that says a refusal, or none; and a condition that holds of that number and place alone, or of none.
@@ -63,12 +59,6 @@ module _ (said : Said) (Turns : (n p : ℕ) → Type 0) where
 
 -- By the book, and by a condition of the call's own.
 module _ (terms : Terms) (book : List ℕ) (Own : Day → (n p : ℕ) → Type 0) (said : Said) where
-  low : (profile : Profile) (n : ℕ) → ((1 ≤ n) × (n ≤ 7)) ⊎ (n ≡ numberBy profile) → 1 ≤ n
-  unfolding numberBy
-  low profile n (inl h) = h .0
-  low Ordering n (inr e) = omega arith
-  low FirstCome n (inr e) = omega arith
-
   pub turned : ((n p : ℕ) → readBy terms book ≡ refused n p → said ≡ saidNo n p) →
       ((day : Day) → readBy terms book ≡ accepted day → (n p : ℕ) → Refuses said n p ↔ Own day n p) →
       (n p : ℕ) → Refuses said n p ↔ Turned (terms .profile) book Own n p
@@ -86,7 +76,7 @@ module _ (terms : Terms) (book : List ℕ) (Own : Day → (n p : ℕ) → Type 0
       back (by-book r) =
           let e = book-refused terms book n p .1 r in
           let s = book-no n p e in
-          (low (terms .profile) n (refused-numbered terms book n p e), ap (λ (s : Said). s .number) s, ap (λ (s : Said). s .place) s)
+          (from-1 (terms .profile) (book-numbered r), ap (λ (s : Said). s .number) s, ap (λ (s : Said). s .place) s)
       back (by-call day a o) = own day (accepts terms book day .1 a) n p .1 o
 
 -- The calls on what is planned.
@@ -208,11 +198,15 @@ module _ (g : Planning) where
           let k : q ≡ p = sym (ap (λ v. saidVerdict v .place) v) ∙ h .2 in
           posting-turned (length (g .left)) posting n p .0 (e ∙ (λ i. tested.Refused (f i) (k i)))
 
+      ten : {m q : ℕ} → VerdictTurned (length (g .left)) posting m q → 1 ≤ m
+      ten (table.wrong-length d) = omega arith
+      ten (table.stray l q i x f) = omega arith
+
       back : VerdictTurned (length (g .left)) posting n p → Refuses (saidVerdict (verdictOutcome g posting)) n p
       back t =
           let e = posting-turned (length (g .left)) posting n p .1 t in
           let v = verdict-no g posting n p e in (
-            omega (arith, posting-number (length (g .left)) posting n p e),
+            ten t,
             ap (λ v. saidVerdict v .number) v,
             ap (λ v. saidVerdict v .place) v,
           )

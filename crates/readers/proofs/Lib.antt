@@ -5,6 +5,5 @@ pub mod Contents
 pub mod Accepted
 pub mod Settled
 pub mod OneClass
-pub mod Numbered
 pub mod Readings
 pub mod OneDay

@@ -1,4 +1,4 @@
--- Tests taken apart: what passed, and the number of a refusal.
+-- Tests taken apart: what passed.
 -- Assumes nothing.
 use Prim.Native.Nat.{ℕ}
 use native.Mathlib.Omega.{arith}
@@ -33,18 +33,3 @@ pub not-refused : (t : Bool) (n p : ℕ) → refuseIf t n p ≡ Passed → t ≡
 unfolding refuseIf
 not-refused true n p e = never (cc)
 not-refused false n p e = refl
-
--- What is said of the number of a refusal, where there is one.
-abbrev pub Says : (ℕ → Type 0) → Tested → Type 0
-Says P Passed = Unit {0}
-Says P (Refused n p) = P n
-
-pub if-says : (P : ℕ → Type 0) (n : ℕ) (t : Bool) (p : ℕ) → P n → Says P (refuseIf t n p)
-unfolding refuseIf
-if-says P n true p h = h
-if-says P n false p h = tt
-
-pub then-says : (P : ℕ → Type 0) (a b : Tested) → Says P a → Says P b → Says P (a then b)
-unfolding _then_
-then-says P Passed b h k = k
-then-says P (Refused n p) b h k = h

@@ -50,8 +50,10 @@ module _ (ends lates : List ℕ) (count : ℕ) (h : count ≤ length ends) (g : 
       cond (beats (pairAt (getD ends i 0) (getD lates i 0)) q) (some (i + 1)) (firstBeating (i + 1 + 1) (drop (i + 1) all) q)
   unfolding firstBeating
   first-step i k =
-      rw (add-one (i + 1), add-one i) (ap (λ (ps : List Pair). firstBeating (suc i) ps q) (drop-cons all i noPair (omega (arith, first-length ends lates count h g))) ∙
-      ap (λ (p : Pair). cond (beats p q) (some (suc i)) (firstBeating (suc (suc i)) (drop (suc i) all) q)) (first-at ends lates count h g i noPair k))
+      rw (add-one (i + 1), add-one i) (ap (λ (ps : List Pair). firstBeating (suc i) ps q)
+      (drop-cons all i noPair (omega (arith, first-length ends lates count h g))) ∙
+      ap (λ (p : Pair). cond (beats p q) (some (suc i)) (firstBeating (suc (suc i)) (drop (suc i) all) q))
+      (first-at ends lates count h g i noPair k))
 
   pub first-here : (i : ℕ) → i < count → beats (pairAt (getD ends i 0) (getD lates i 0)) q ≡ true →
       firstBeating 1 all q ≡ firstBeating (i + 1) (drop i all) q → i + 1 ≡ orZero (firstBeating 1 all q)

@@ -39,8 +39,13 @@ module _ (job : ℕ → Job) (t : ℕ) (left : List ℕ) where
       step : (ps : List Pair) → EndsRise ps → ((p : Pair) → List·Memᴰ p ps → List·Memᴰ p (plans job t left)) → Rising ps
       step [] r f = tt
       step (p ∷ ps) r f = (
-        λ q m. let l = above-mem ps (r .0) m in
-            (l, record { lt = →ltZ (q .late) (p .late) (later-less job t left p q (f p (List·Memᴰ·head refl)) (f q (List·Memᴰ·tail m)) l) }),
+        λ q m. let l = above-mem ps (r .0) m in (
+          l,
+          record {
+            lt = →ltZ (q .late) (p .late)
+                (later-less job t left p q (f p (List·Memᴰ·head refl)) (f q (List·Memᴰ·tail m)) l);
+          },
+        ),
         step ps (r .1) (λ q m. f q (List·Memᴰ·tail m)),
       )
 
@@ -48,10 +53,14 @@ module _ (job : ℕ → Job) (t : ℕ) (left : List ℕ) where
       (((order : List ℕ) × Attains job t left order p) × ((other : List ℕ) → OrderOf left other → ¬ Beats (pairOf job t other) p))
   listed p = (
     λ m. let l = plans-sound job t left p m in
-        let u = pair-order job t left p (l .found) in
-        ((u .0, (whole left (u .1), u .2)), λ other o. unbeaten-says (pairOf job t other) p .0 (l .none-beats (pairOf job t other) (order-pair job t left other (tried left o)))),
+        let u = pair-order job t left p (l .found) in (
+          (u .0, (whole left (u .1), u .2)),
+          λ other o. unbeaten-says (pairOf job t other) p .0
+              (l .none-beats (pairOf job t other) (order-pair job t left other (tried left o))),
+        ),
     λ h. plans-complete job t left p (record {
-      found = subst (λ (q : Pair). List·Memᴰ q (attained job t left)) (h .0 .1 .1) (order-pair job t left (h .0 .0) (tried left (h .0 .1 .0)));
+      found = subst (λ (q : Pair). List·Memᴰ q (attained job t left)) (h .0 .1 .1)
+          (order-pair job t left (h .0 .0) (tried left (h .0 .1 .0)));
       none-beats = λ q m.
           let u = pair-order job t left q m in
           unbeaten-says q p .1 (subst (λ (r : Pair). ¬ Beats r p) (u .2) (h .1 (u .0) (whole left (u .1))));

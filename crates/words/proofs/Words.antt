@@ -1,18 +1,16 @@
--- What passed tests say of a word, and the numbers of those that refuse: 1 to 7 is what is said of all tests of the words of a book.
+-- What passed tests say of a word.
 -- Assumes nothing.
 use Prim.Native.Nat.{ℕ, _+_, _≤_, _<_}
-use native.Mathlib.Omega.{arith}
 use mathlib.Core.Bool.{Bool, true, false, _||_}
 use mathlib.Core.Path.{_≡_, refl}
 use mathlib.Core.List.{List}
 use lib.Dec.{ltb}
 use lib.ListN.{length}
 use borrow.Author.Tests.{ltb-false, leb-false}
-use Rattle.refusals.specs.declared.Tested.{Tested}
 use Rattle.refusals.specs.declared.Tested.the-variants.{Passed}
 use Rattle.refusals.specs.Refusals.{byRange}
 use Rattle.refusals.specs.Tests.{refuseIf, _then_}
-use Rattle.refusals.proofs.Tests.{never, then-left, then-right, not-refused, Says, if-says, then-says}
+use Rattle.refusals.proofs.Tests.{never, then-left, then-right, not-refused}
 use Rattle.words.specs.Words.{value, word}
 use Rattle.words.specs.WordTests.{outside, kindTests, wordTests}
 
@@ -41,24 +39,3 @@ word-fits k lo hi place ws i e =
       least = ltb-false v lo (neither (ltb v lo) (ltb hi v) o .0);
       most = ltb-false hi v (neither (ltb v lo) (ltb hi v) o .1);
     }
-
--- The number of a refusal by tests of words.
-abbrev pub InTable : ℕ → Type 0
-InTable n = (1 ≤ n) × (n ≤ 7)
-
-abbrev pub Numbered : Tested → Type 0
-Numbered = Says InTable
-
-pub by-test : {n : ℕ} (b : Bool) (p : ℕ) → InTable n → Numbered (refuseIf b n p)
-by-test {n} b p = if-says InTable n b p
-
-pub by-either : (a b : Tested) → Numbered a → Numbered b → Numbered (a then b)
-by-either = then-says InTable
-
-pub kinds-numbered : (k place : ℕ) (ws : List ℕ) (i : ℕ) → Numbered (kindTests k place ws i)
-unfolding kindTests
-kinds-numbered k place ws i = by-either _ _ (by-test _ _ (omega arith, omega arith)) (by-test _ _ (omega arith, omega arith))
-
-pub word-numbered : (k lo hi place : ℕ) (ws : List ℕ) (i : ℕ) → Numbered (wordTests k lo hi place ws i)
-unfolding wordTests
-word-numbered k lo hi place ws i = by-either _ _ (kinds-numbered k place ws i) (by-test _ _ (omega arith, omega arith))

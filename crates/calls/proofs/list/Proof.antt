@@ -55,8 +55,16 @@ write-plans-requires : tie.Need-write-plans-requires
 write-plans-requires c κs =
     let l = c .before .before .before .before .list in
     let y = planned (c .before .before .before .before .before .before .before .before .before .before) in
-    let s = front-sized (y .plannable) (l .result) (l .ensures) in
-    (s .few, s .ends, s .lates, omega (arith, l .ensures .few, c .before .before .before .before .before .before .before .before .before .if1 .left))
+    let s = front-sized (y .plannable) (l .result) (l .ensures) in (
+      s .few,
+      s .ends,
+      s .lates,
+      omega (
+        arith,
+        l .ensures .few,
+        c .before .before .before .before .before .before .before .before .before .if1 .left,
+      ),
+    )
 
 same-length : tie.Need-same-length
 same-length c = search needs
@@ -64,9 +72,12 @@ same-length c = search needs
 returns-3 : tie.Need-returns-3
 returns-3 c =
     let l = c .before .before .before .before .before .before .before .list in
-    let a = c .before .before .before .before .before .before .before .before .before .before .before .before .before .before .before .before .before .before .args in
+    let a = c .before .before .before .before .before .before .before .before .before .before .before .before .before .before .before
+    .before .before .before .args in
     let y = planned (c .before .before .before .before .before .before .before .before .before .before .before .before .before) in
-    list-done (y .plannable) (l .result) (l .ensures) (a .result .now) _ (c .before .before .before .before .before .before .before .before .before .before .before .before .if1 .left) (c .before .before .write-plans .ensures) ∙ y .list (a .result .now)
+    list-done (y .plannable) (l .result) (l .ensures) (a .result .now) _
+    (c .before .before .before .before .before .before .before .before .before .before .before .before .if1 .left)
+    (c .before .before .write-plans .ensures) ∙ y .list (a .result .now)
 
 pub list-spec : {M : Type 1} → statement M
 list-spec =

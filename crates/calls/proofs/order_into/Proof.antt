@@ -35,7 +35,8 @@ returns-2 : tie.Need-returns-2
 returns-2 c =
     let o = c .before .before .before .before .order-for in
     let b = c .before .before .before .before .before .before .before .before in
-    order-unkept (b .pre) (b .args .bound) (b .args .result .now) (c .before .before .before .before .before .before .if1 .left) (o .result) _ (o .ensures) (c .enum-told .given .1)
+    order-unkept (b .pre) (b .args .bound) (b .args .result .now) (c .before .before .before .before .before .before .if1 .left)
+    (o .result) _ (o .ensures) (c .enum-told .given .1)
 
 lower-requires : tie.Need-lower-requires
 lower-requires c κs = search needs
@@ -49,8 +50,11 @@ returns-3 c =
     let w = c .lower in
     let b = c .before .before .before .before .before .before .before .before .before .before in
     let k = c .before .before .end .given in
-    ap (λ (z : ℤ). gives (order-answer.Pair (k .0 .0) z) (o .last .1 .1 .1 .1 .1 .1 .1 .0)) (lowered-word (k .0 .1 .0) (w .result) (omega arith) (w .ensures)) ∙
-    order-kept (b .pre) (b .args .bound) (b .args .result .now) (c .before .before .before .before .before .before .before .before .if1 .left) (o .result) _ (o .ensures) (k .0 .0) (k .0 .1 .0) (k .1)
+    ap (λ (z : ℤ). gives (order-answer.Pair (k .0 .0) z) (o .last .1 .1 .1 .1 .1 .1 .1 .0))
+    (lowered-word (k .0 .1 .0) (w .result) (omega arith) (w .ensures)) ∙
+    order-kept (b .pre) (b .args .bound) (b .args .result .now)
+    (c .before .before .before .before .before .before .before .before .if1 .left) (o .result) _ (o .ensures) (k .0 .0) (k .0 .1 .0)
+    (k .1)
 
 pub order-into-spec : {M : Type 1} → statement M
 order-into-spec =

@@ -67,7 +67,8 @@ element-copy-out-late c =
     omega (arith, s .few, c .if2 .left)
 
 order-into-requires : tie.Need-order-into-requires
-order-into-requires c κs = planned (c .before .before .before .before .before .before .before .before .before .before .before .before .before) .plannable
+order-into-requires c κs = planned
+    (c .before .before .before .before .before .before .before .before .before .before .before .before .before) .plannable
 
 same-length : tie.Need-same-length
 same-length c = search needs
@@ -75,9 +76,15 @@ same-length c = search needs
 returns-4 : tie.Need-returns-4
 returns-4 c =
     let l = c .before .before .before .before .before .before .before .before .before .before .before .list in
-    let a = c .before .before .before .before .before .before .before .before .before .before .before .before .before .before .before .before .before .before .before .before .before .args in
-    let y = planned (c .before .before .before .before .before .before .before .before .before .before .before .before .before .before .before .before) in
-    plan-done (y .plannable) (l .result) (l .ensures) (a .plan) (omega (arith, c .before .before .before .before .before .before .before .before .before .before .if1 .left)) (c .before .before .before .before .before .before .before .before .before .if2 .left) (a .result .now) _ (c .before .before .order-into .ensures) ∙
+    let a = c .before .before .before .before .before .before .before .before .before .before .before .before .before .before .before
+    .before .before .before .before .before .before .args in
+    let y = planned
+    (c .before .before .before .before .before .before .before .before .before .before .before .before .before .before .before
+    .before) in
+    plan-done (y .plannable) (l .result) (l .ensures) (a .plan)
+    (omega (arith, c .before .before .before .before .before .before .before .before .before .before .if1 .left))
+    (c .before .before .before .before .before .before .before .before .before .if2 .left) (a .result .now) _
+    (c .before .before .order-into .ensures) ∙
     y .plan (a .plan) (a .result .now)
 
 pub order-of-plan-spec : {M : Type 1} → statement M

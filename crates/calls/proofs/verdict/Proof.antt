@@ -46,7 +46,8 @@ returns-2 c =
     let a = c .before .before .before .before .before .before .before .before .before .args in
     let y = planned (c .before .before .before .before) in
     let g = c .before .test .given in
-    verdict-stray (y .plannable) (a .posting .now) (g .0 .0) (g .0 .1 .0) (sym (c .before .before .before .posting-tests .ensures) ∙ g .1) ∙ y .verdict (a .posting .now)
+    verdict-stray (y .plannable) (a .posting .now) (g .0 .0) (g .0 .1 .0)
+    (sym (c .before .before .before .posting-tests .ensures) ∙ g .1) ∙ y .verdict (a .posting .now)
 
 enum-told-2 : tie.Need-enum-told-2
 enum-told-2 c = search needs
@@ -58,16 +59,20 @@ list-requires c κs =
 
 follow-requires : tie.Need-follow-requires
 follow-requires c κs =
-    let a = c .before .before .before .before .before .before .before .before .before .before .before .before .before .before .before .before .before .args in
+    let a = c .before .before .before .before .before .before .before .before .before .before .before .before .before .before .before
+    .before .before .args in
     let p = planned (c .before .before .before .before .before .before .before .before .before .before .before .before) .plannable in
-    let passed = sym (c .before .before .before .before .before .before .before .before .before .before .before .posting-tests .ensures) ∙ c .before .before .before .before .before .before .before .before .before .enum-told2 .given .1 in
+    let passed = sym (c .before .before .before .before .before .before .before .before .before .before .before .posting-tests .ensures) ∙
+    c .before .before .before .before .before .before .before .before .before .enum-told2 .given .1 in
     let l = posting-length p (a .posting .now) passed in
     (p .limits, (omega (arith, l, p .early), omega (arith, l, p .few), posting-rows p (a .posting .now) passed))
 
 judge-requires : tie.Need-judge-requires
 judge-requires c κs =
     let l = c .before .before .before .before .before .before .before .before .list in
-    let p = planned (c .before .before .before .before .before .before .before .before .before .before .before .before .before .before .before .before) .plannable in
+    let p = planned
+    (c .before .before .before .before .before .before .before .before .before .before .before .before .before .before .before
+    .before) .plannable in
     let s = front-sized p (l .result) (l .ensures) in
     (s .few, s .ends, s .lates)
 
@@ -75,10 +80,18 @@ returns-3 : tie.Need-returns-3
 returns-3 c =
     let l = c .before .before .before .before .before .before .before .before .before .list in
     let f = c .before .before .before .before .follow in
-    let a = c .before .before .before .before .before .before .before .before .before .before .before .before .before .before .before .before .before .before .before .before .before .before .args in
-    let y = planned (c .before .before .before .before .before .before .before .before .before .before .before .before .before .before .before .before .before) in
-    let passed = sym (c .before .before .before .before .before .before .before .before .before .before .before .before .before .before .before .before .posting-tests .ensures) ∙ c .before .before .before .before .before .before .before .before .before .before .before .before .before .before .enum-told2 .given .1 in
-    verdict-done (y .plannable) (l .result) (l .ensures) (a .posting .now) passed (f .result) (f .ensures) (c .judge .result) (c .judge .ensures) ∙
+    let a = c .before .before .before .before .before .before .before .before .before .before .before .before .before .before .before
+    .before .before .before .before .before .before .before .args in
+    let y = planned
+    (c .before .before .before .before .before .before .before .before .before .before .before .before .before .before .before .before
+    .before) in
+    let passed = sym
+    (c .before .before .before .before .before .before .before .before .before .before .before .before .before .before .before .before
+    .posting-tests .ensures) ∙
+    c .before .before .before .before .before .before .before .before .before .before .before .before .before .before .enum-told2
+    .given .1 in
+    verdict-done (y .plannable) (l .result) (l .ensures) (a .posting .now) passed (f .result) (f .ensures) (c .judge .result)
+    (c .judge .ensures) ∙
     y .verdict (a .posting .now)
 
 pub verdict-spec : {M : Type 1} → statement M

@@ -21,7 +21,8 @@ returns : tie.Need-returns
 returns c =
     let s = c .before .before .before .before .before .before in
     let a = s .args in
-    c .before .before .order-for-bound .ensures ∙ ap (λ (y : ℤ). boundCall firstCome (now (a .book)) y (now (a .result))) (toZ-ofZ w32 (a .bound) (s .fits .bound))
+    c .before .before .order-for-bound .ensures ∙ ap (λ (y : ℤ). boundCall firstCome (now (a .book)) y (now (a .result)))
+    (toZ-ofZ w32 (a .bound) (s .fits .bound))
 
 pub order-for-bound-spec : {M : Type 1} → statement M
 order-for-bound-spec = tie.close (tie.spec order-for-bound-requires same-length returns)

@@ -37,7 +37,8 @@ away-requires c κs =
     let a = c .before .before .before .before .before .before .before .args in
     let p = c .before .before .before .before .before .before .before .pre .1 in
     let d = c .before .before .before .take .ensures in
-    can-clear (p .0) (p .1 .2) (p .1 .3) d (c .before .advance .ensures (a .minutes .now) (a .due .now) (p .1 .0) (p .0) (at-end (p .0) (p .1 .2) (p .1 .3) d))
+    can-clear (p .0) (p .1 .2) (p .1 .3) d (c .before .advance .ensures (a .minutes .now) (a .due .now) (p .1 .0) (p .0)
+    (at-end (p .0) (p .1 .2) (p .1 .3) d))
 
 returns : tie.Need-returns
 returns c =
@@ -45,7 +46,8 @@ returns c =
     let a = c .before .before .before .before .before .before .before .before .args in
     let p = c .before .before .before .before .before .before .before .before .pre in
     let d = c .before .before .before .before .take .ensures in
-    taken (p .1 .0) g m d (c .before .before .advance .ensures (a .minutes .now) (a .due .now) rest (p .1 .0) (at-end (p .1 .0) g m d)) (p .0) (c .away .ensures)
+    taken (p .1 .0) g m d (c .before .before .advance .ensures (a .minutes .now) (a .due .now) rest (p .1 .0) (at-end (p .1 .0) g m d))
+    (p .0) (c .away .ensures)
 
 pub take-spec : {M : Type 1} → statement M
 take-spec =

@@ -16,11 +16,13 @@ use Rattle.postings.proofs.entry_tests.Statement.{statement}
 use Rattle.postings.proofs.entry_tests.Tie as tie
 
 -- The test of an entry, by the marks and by what was seen.
-by-seen : (n e : ℕ) (seen : List Bool) (s : List ℕ) (r b : Bool) → Marks seen s → r ≡ (eqb e 0 || ltb n e || getD seen e false) → r ≡ b → (eqb e 0 || ltb n e || stands e s) ≡ b
+by-seen : (n e : ℕ) (seen : List Bool) (s : List ℕ) (r b : Bool) → Marks seen s → r ≡ (eqb e 0 || ltb n e || getD seen e false) → r ≡ b →
+    (eqb e 0 || ltb n e || stands e s) ≡ b
 by-seen n e seen s r b m h k = sym (ap (λ (x : Bool). eqb e 0 || ltb n e || x) (m e)) ∙ (sym h ∙ k)
 
 abbrev Inv-loop : tie.InvT-loop
-Inv-loop n posting seen₀ k₀ seen k = (k ≤ n) × (length seen ≡ rowPlaces) × ((s : List ℕ) × Marks seen s × (entryTests n [] 0 posting ≡ entryTests n s k (drop k posting)))
+Inv-loop n posting seen₀ k₀ seen k = (k ≤ n) × (length seen ≡ rowPlaces) ×
+    ((s : List ℕ) × Marks seen s × (entryTests n [] 0 posting ≡ entryTests n s k (drop k posting)))
 
 abbrev μ-loop : tie.MeasureT-loop
 μ-loop n posting seen₀ k₀ seen k = n - k
@@ -43,14 +45,17 @@ returns c =
     let a = c .before .before .before .before .before .before .before .args in
     let e = getD (a .posting .now) (l .k) 0 in
     sym (l .inv .2 .2 ∙ entry-stray (a .n) (a .posting .now) (l .inv .2 .0) (l .k) (omega arith)
-    (by-seen (a .n) e (l .seen) (l .inv .2 .0) (c .before .is-stray .result) true (l .inv .2 .1) (c .before .is-stray .ensures) (c .if1 .taken)))
+    (by-seen (a .n) e (l .seen) (l .inv .2 .0) (c .before .is-stray .result) true (l .inv .2 .1) (c .before .is-stray .ensures)
+    (c .if1 .taken)))
 
 -- An entry that is no stray is a row.
-not-past : (c : tie.Else1 Inv-loop μ-loop) → getD (c .before .before .before .before .before .before .before .args .posting .now) (c .before .before .before .before .before .loop .k) 0 ≤ c .before .before .before .before .before .before .before .args .n
+not-past : (c : tie.Else1 Inv-loop μ-loop) → getD (c .before .before .before .before .before .before .before .args .posting .now)
+    (c .before .before .before .before .before .loop .k) 0 ≤ c .before .before .before .before .before .before .before .args .n
 not-past c =
     let l = c .before .before .before .before .before .loop in
     let a = c .before .before .before .before .before .before .before .args in
-    stray-not (a .n) (getD (a .posting .now) (l .k) 0) (getD (l .seen) (getD (a .posting .now) (l .k) 0) false) (sym (c .before .is-stray .ensures) ∙ c .if1 .left)
+    stray-not (a .n) (getD (a .posting .now) (l .k) 0) (getD (l .seen) (getD (a .posting .now) (l .k) 0) false)
+    (sym (c .before .is-stray .ensures) ∙ c .if1 .left)
 
 cast-seen : tie.Need-cast-seen Inv-loop μ-loop
 cast-seen c = record { fits = omega (arith, not-past c) }

@@ -13,7 +13,8 @@ use Rattle.results.proofs.write_plans.Statement.{statement}
 use Rattle.results.proofs.write_plans.Tie as tie
 
 abbrev Inv-loop : tie.InvT-loop
-Inv-loop ends lates count result₀ k₀ result k = (k ≤ count) × (length result ≡ length result₀) × (result ≡ written (wordsTo ends lates k) result₀)
+Inv-loop ends lates count result₀ k₀ result k = (k ≤ count) × (length result ≡ length result₀) ×
+    (result ≡ written (wordsTo ends lates k) result₀)
 
 abbrev μ-loop : tie.MeasureT-loop
 μ-loop ends lates count result₀ k₀ result k = count - k
@@ -71,7 +72,8 @@ loop-again c =
       search needs,
       simp length-set (omega arith),
       ap (λ (b : List ℕ). set (set b (2 * l .k) (getD (a .ends .now) (l .k) 0)) (2 * l .k + 1) (c .word-of .result)) (l .inv .2) ∙
-          words-more (a .ends .now) (a .lates .now) (l .k) (omega arith) (omega arith) (a .result .now) (omega arith) (c .word-of .result) (c .word-of .ensures),
+          words-more (a .ends .now) (a .lates .now) (l .k) (omega arith) (omega arith) (a .result .now) (omega arith) (c .word-of .result)
+          (c .word-of .ensures),
     )
 
 same-length : tie.Need-same-length Inv-loop μ-loop

@@ -1,0 +1,44 @@
+-- The numbers that the conditions of a call tell are of the table.
+-- Assumes nothing.
+use Prim.Native.Nat.{ℕ, _≤_}
+use native.Mathlib.Omega.{arith}
+use mathlib.Core.Path.{sym, subst}
+use mathlib.Core.List.{List}
+use Rattle.schedule.specs.declared.Profile.{Profile}
+use Rattle.schedule.specs.declared.Profile.the-variants.{Ordering, FirstCome}
+use Rattle.schedule.specs.Rows.{Day}
+use Rattle.grammar.specs.Words.{Wrong, cut, kind, range, twice, full, count, tail}
+use Rattle.promises.specs.Table.{BookRefused, by-word, disorder, crossed, Turned, by-book, by-call}
+use Rattle.promises.specs.Promise.{InTable}
+
+wrong-numbered : {book : List ℕ} {n p : ℕ} → Wrong book n p → (1 ≤ n) × (n ≤ 7)
+wrong-numbered (cut d) = (omega arith, omega arith)
+wrong-numbered (kind p d l w) = (omega arith, omega arith)
+wrong-numbered (range p d l w) = (omega arith, omega arith)
+wrong-numbered (twice i j d l k f e) = (omega arith, omega arith)
+wrong-numbered (full d l k) = (omega arith, omega arith)
+wrong-numbered (count n d a v) = (omega arith, omega arith)
+wrong-numbered (tail n d a l) = (omega arith, omega arith)
+
+up-to-7 : (profile : Profile) (n : ℕ) → (1 ≤ n) × (n ≤ 7) → InTable profile n
+up-to-7 Ordering n h = (h .0, omega (arith, h .1))
+up-to-7 FirstCome n h = (h .0, omega (arith, h .1), λ e. omega (arith, h .1))
+
+from-9 : (profile : Profile) (n : ℕ) → (9 ≤ n) × (n ≤ 12) → InTable profile n
+from-9 Ordering n h = (omega (arith, h .0), h .1)
+from-9 FirstCome n h = (omega (arith, h .0), omega (arith, h .1), λ e. omega (arith, h .0))
+
+pub book-numbered : {profile : Profile} {book : List ℕ} {n p : ℕ} → BookRefused profile book n p → InTable profile n
+book-numbered {profile} (by-word n p f) = up-to-7 profile n (wrong-numbered (f .wrong))
+book-numbered (disorder e day t k c) = subst (λ (x : Profile). InTable x 8) (sym e) (omega arith, omega arith)
+book-numbered (crossed e day t k c) = subst (λ (x : Profile). InTable x 13) (sym e) (omega arith, omega arith, λ e. omega arith)
+
+pub turned-numbered : {profile : Profile} {book : List ℕ} {Own : Day → (n p : ℕ) → Type 0} {n p : ℕ} →
+    ((day : Day) (n p : ℕ) → Own day n p → (9 ≤ n) × (n ≤ 12)) → Turned profile book Own n p → InTable profile n
+turned-numbered f (by-book r) = book-numbered r
+turned-numbered {profile} {book} {Own} {n} {p} f (by-call day a o) = from-9 profile n (f day n p o)
+
+-- And they are numbers from 1 on.
+pub from-1 : (profile : Profile) {n : ℕ} → InTable profile n → 1 ≤ n
+from-1 Ordering h = h .0
+from-1 FirstCome h = h .0
