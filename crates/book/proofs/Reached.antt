@@ -19,7 +19,8 @@ use Rattle.book.specs.Rows.{accepted, dayOf, refusedOr, endStands, endTe
 use Rattle.book.specs.Tables.{tableOf, noDay, tableRows, readingOf, unlessRefused}
 use Rattle.refusals.proofs.Tests.{never}
 use Rattle.row_reader.proofs.Tests.{row-fits}
-use Rattle.book.proofs.Tables.{Filled, filled-start, filled-size, filled-on, Column, column-start, column-on, pushed, pushed-rows, unless-refused-is}
+use Rattle.book.proofs.Tables.{Filled, filled-start, filled-size, filled-on, Column, column-start, column-on, pushed, pushed-rows}
+use Rattle.book.proofs.Tables.{unless-refused-is}
 
 -- The row reader's answer, taken apart.
 pub whole-tests : (o : Tested) (r q : Row) → read.Whole q ≡ rowReadOf o r → o ≡ Passed

@@ -75,7 +75,8 @@ module _ {clash : Row → Row → Bool} (ways : Mutual clash) (number : ℕ) (rs
       l : i < length rs
       l = omega arith
 
-      go : (b : Bool) → someEntry (clash (getD rs i noRow)) (take i rs) ≡ b → (NoClashBefore (suc i) → Tried (pairsAt clash number rs (suc i))) →
+      go : (b : Bool) → someEntry (clash (getD rs i noRow)) (take i rs) ≡ b →
+          (NoClashBefore (suc i) → Tried (pairsAt clash number rs (suc i))) →
           Tried (pairsAt clash number rs i)
       go true e later =
           let f = some-found (clash (getD rs i noRow)) (take i rs) noRow e in

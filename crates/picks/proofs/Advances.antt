@@ -32,18 +32,21 @@ module _ {n : ℕ} {job : ℕ → Job} {by : ℕ → ℕ} (r : Tables n job by) 
     -- is put there,
     pub next-put : job i .release ≤ t → {more : List ℕ} → Puts ws i more → Stands n job by t rest (next + 1) more
     next-put g {more} f =
-        stands-put r s h (subst (λ (k : ℕ). job k .release ≤ t) w g) (subst (λ (k : ℕ). Words (mark k true (s .set)) more) w (f (s .set) (s .words) off))
+        stands-put r s h (subst (λ (k : ℕ). job k .release ≤ t) w g)
+        (subst (λ (k : ℕ). Words (mark k true (s .set)) more) w (f (s .set) (s .words) off))
 
     -- or is late, and so are all after it.
     pub next-late : t < job i .release → Late n job by t next
     next-late g = late-from r s h (subst (λ (k : ℕ). t < job k .release) w g)
 
 -- Past the last place no row is ahead.
-pub late-past : {n : ℕ} {job : ℕ → Job} {by : ℕ → ℕ} {t next : ℕ} {rest ws : List ℕ} → Stands n job by t rest next ws → n ≤ next → Late n job by t next
+pub late-past : {n : ℕ} {job : ℕ → Job} {by : ℕ → ℕ} {t next : ℕ} {rest ws : List ℕ} → Stands n job by t rest next ws → n ≤ next →
+    Late n job by t next
 late-past s h k u v = let z : ⊥ = omega arith in absurd z
 
 -- From one place in the rows by release to a later one, whatever the rows left over.
 abbrev pub Toward : (release by : List ℕ) (n t from : ℕ) (ready : List ℕ) (next : ℕ) (more : List ℕ) → Type 0
 Toward release by n t from ready next more =
-    (minutes due rest : List ℕ) → Tables n (columns release minutes due) (at by) → Stands n (columns release minutes due) (at by) t rest from ready →
+    (minutes due rest : List ℕ) → Tables n (columns release minutes due) (at by) → Stands n (columns release minutes due)
+    (at by) t rest from ready →
     Stands n (columns release minutes due) (at by) t rest next more

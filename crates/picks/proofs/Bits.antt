@@ -41,18 +41,22 @@ mark-out k p j h = go (eqb j k)
     go false = h
 
 -- A word with k put in or taken out: the words are equal but for k's own bit.
-pub word-split : (p : ℕ → Bool) (b : Bool) (k i m : ℕ) → i ≤ k → k < i + m → word p i m + bit b * 2 ^ (k - i) ≡ word (mark k b p) i m + bit (p k) * 2 ^ (k - i)
+pub word-split : (p : ℕ → Bool) (b : Bool) (k i m : ℕ) → i ≤ k → k < i + m → word p i m + bit b * 2 ^ (k - i) ≡ word
+    (mark k b p) i m + bit (p k) * 2 ^ (k - i)
 unfolding word
 word-split p b k i zero h g = let z : ⊥ = omega arith in absurd z
 word-split p b k i (suc m) h g = go (eqb k i) refl (λ l. word-split p b k (suc i) m l (omega arith))
   where
     Goal : Type 0
-    Goal = bit (p i) + 2 * word p (suc i) m + bit b * 2 ^ (k - i) ≡ bit (mark k b p i) + 2 * word (mark k b p) (suc i) m + bit (p k) * 2 ^ (k - i)
+    Goal = bit (p i) + 2 * word p (suc i) m + bit b * 2 ^ (k - i) ≡ bit (mark k b p i) + 2 * word (mark k b p) (suc i) m + bit (p k) * 2 ^
+        (k - i)
 
-    go : (c : Bool) → eqb k i ≡ c → (suc i ≤ k → word p (suc i) m + bit b * 2 ^ (k - suc i) ≡ word (mark k b p) (suc i) m + bit (p k) * 2 ^ (k - suc i)) → Goal
+    go : (c : Bool) → eqb k i ≡ c → (suc i ≤ k → word p (suc i) m + bit b * 2 ^ (k - suc i) ≡ word (mark k b p) (suc i) m + bit
+        (p k) * 2 ^ (k - suc i)) → Goal
     go true e f =
         let x : k ≡ i = eqb-true k i e in
-        let w : word (mark k b p) (suc i) m ≡ word p (suc i) m = word-same (mark k b p) p (suc i) m (λ j u v. mark-other k b p j (λ y. omega arith)) in
+        let w : word (mark k b p) (suc i) m ≡ word p (suc i) m = word-same (mark k b p) p (suc i) m
+        (λ j u v. mark-other k b p j (λ y. omega arith)) in
         let y : mark k b p i ≡ b = ap (mark k b p) (sym x) ∙ mark-same k b p in
         let d : k - i ≡ 0 = omega arith in
         let o : 2 ^ (k - i) ≡ 1 = ap (λ (d : ℕ). 2 ^ d) d in
@@ -65,7 +69,8 @@ word-split p b k i (suc m) h g = go (eqb k i) refl (λ l. word-split p b k (suc 
         let o : 2 ^ (k - i) ≡ 2 ^ (k - suc i) * 2 = ap (λ (z : ℕ). 2 ^ z) d ∙ pow-suc 2 (k - suc i) in
         rw (y, o) (by-bits (p i) b (p k) (2 ^ (k - suc i)) (word p (suc i) m) (word (mark k b p) (suc i) m) (f (omega arith)))
       where
-        by-bits : (a b c : Bool) (o u v : ℕ) → u + bit b * o ≡ v + bit c * o → bit a + 2 * u + bit b * (o * 2) ≡ bit a + 2 * v + bit c * (o * 2)
+        by-bits : (a b c : Bool) (o u v : ℕ) → u + bit b * o ≡ v + bit c * o → bit a + 2 * u + bit b * (o * 2) ≡ bit a + 2 * v + bit c *
+            (o * 2)
         by-bits a true true o u v q = omega arith
         by-bits a true false o u v q = omega arith
         by-bits a false true o u v q = omega arith
@@ -96,13 +101,19 @@ pub record Zeros (p : ℕ → Bool) (i m z : ℕ) : Type 0 where
 
 pub zeros : (p : ℕ → Bool) (i m : ℕ) → Zeros p i m (trailingZeros m (word p i m))
 unfolding trailingZeros word
-zeros p i zero = record { most = omega arith; clear = λ j g h. let z : ⊥ = omega arith in absurd z; there = λ h. let z : ⊥ = omega arith in absurd z }
+zeros p i zero = record {
+  most = omega arith;
+  clear = λ j g h. let z : ⊥ = omega arith in absurd z;
+  there = λ h. let z : ⊥ =
+      omega arith in absurd z;
+}
 zeros p i (suc m) = go (p i) refl (zeros p (suc i) m)
   where
     x : ℕ
     x = word p (suc i) m
 
-    go : (b : Bool) → p i ≡ b → Zeros p (suc i) m (trailingZeros m x) → Zeros p i (suc m) (under ((bit (p i) + 2 * x) % 2) (trailingZeros m ((bit (p i) + 2 * x) / 2)))
+    go : (b : Bool) → p i ≡ b → Zeros p (suc i) m (trailingZeros m x) → Zeros p i (suc m)
+        (under ((bit (p i) + 2 * x) % 2) (trailingZeros m ((bit (p i) + 2 * x) / 2)))
     go true e r =
         let o : (bit (p i) + 2 * x) % 2 ≡ 1 = omega (arith, ap bit e) in
         subst (λ (d : ℕ). Zeros p i (suc m) (under d (trailingZeros m ((bit (p i) + 2 * x) / 2)))) (sym o)

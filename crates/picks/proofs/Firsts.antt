@@ -25,7 +25,8 @@ module _ {job : ℕ → Job} {t : ℕ} where
   -- and by rank.
   pub ranked : {i j : ℕ} → job i .release ≤ max t (job j .release) → outranks job i j ≡ true → Ahead job t i j
   unfolding before ready
-  ranked {i} {j} l o = before-ahead job t i j (is-true _ (go (compare (ready (job i) t) (ready (job j) t)) (compared (ready (job i) t) (ready (job j) t))))
+  ranked {i} {j} l o = before-ahead job t i j
+      (is-true _ (go (compare (ready (job i) t) (ready (job j) t)) (compared (ready (job i) t) (ready (job j) t))))
     where
       go : (r : Ordering) → Compared (ready (job i) t) (ready (job j) t) r → ahead r (outranks job i j) ≡ true
       go Ordering·lt c = refl
@@ -33,6 +34,7 @@ module _ {job : ℕ → Job} {t : ℕ} where
       go Ordering·gt c = let z : ⊥ = omega arith in absurd z
 
 -- The second pick is the first among the others.
-pub second-is : (job : ℕ → Job) (t : ℕ) (rest : List ℕ) (i j : ℕ) → i ≡ firstPick job t rest → j ≡ firstPick job t (without i rest) → j ≡ secondPick job t rest
+pub second-is : (job : ℕ → Job) (t : ℕ) (rest : List ℕ) (i j : ℕ) → i ≡ firstPick job t rest → j ≡ firstPick job t (without i rest) → j ≡
+    secondPick job t rest
 unfolding secondPick others
 second-is job t rest i j e f = f ∙ ap (λ (k : ℕ). firstPick job t (without k rest)) e

@@ -26,13 +26,16 @@ NextAfter ws i j = (p : ℕ → Bool) → Words p ws → p 0 ≡ false → p i �
 
 abbrev pub Front : (n : ℕ) (by : ℕ → ℕ) (j next k : ℕ) → Type 0
 Front n by j next k =
-    (job : ℕ → Job) (t : ℕ) (rest ws : List ℕ) → Tables n job by → (s : Stands n job by t rest next ws) → Least (s .set) j → Late n job by t next → k ≡ firstPick job t rest
+    (job : ℕ → Job) (t : ℕ) (rest ws : List ℕ) → Tables n job by → (s : Stands n job by t rest next ws) → Least (s .set) j →
+    Late n job by t next → k ≡ firstPick job t rest
 
 -- The least row of the set, as `lowest` finds it.
-pub least-row : {n : ℕ} {job : ℕ → Job} {by : ℕ → ℕ} → Tables n job by → {t : ℕ} {rest : List ℕ} {next : ℕ} {ws : List ℕ} (s : Stands n job by t rest next ws) {i : ℕ} → Lowest ws i → Least (s .set) i
+pub least-row : {n : ℕ} {job : ℕ → Job} {by : ℕ → ℕ} → Tables n job by → {t : ℕ} {rest : List ℕ} {next : ℕ} {ws : List ℕ}
+    (s : Stands n job by t rest next ws) {i : ℕ} → Lowest ws i → Least (s .set) i
 least-row r s l = l (s .set) (s .words) (no-zero r s)
 
-module _ {n : ℕ} {job : ℕ → Job} {by : ℕ → ℕ} (r : Tables n job by) {t : ℕ} {rest : List ℕ} {next : ℕ} {ws : List ℕ} (s : Stands n job by t rest next ws) {i : ℕ} (least : Least (s .set) i) where
+module _ {n : ℕ} {job : ℕ → Job} {by : ℕ → ℕ} (r : Tables n job by) {t : ℕ} {rest : List ℕ} {next : ℕ} {ws : List ℕ}
+    (s : Stands n job by t rest next ws) {i : ℕ} (least : Least (s .set) i) where
   module _ (some : i ≡ 0 → ⊥) where
     on : s .set i ≡ true
     on = least .some some .0
@@ -74,15 +77,18 @@ module _ {n : ℕ} {job : ℕ → Job} {by : ℕ → ℕ} (r : Tables n job by) 
     module _ (h : next < n) where
       -- and the row at the next one is the first pick.
       pub ahead-pick : by next ≡ firstPick job t rest
-      ahead-pick = pick-is (by next) rest (s .ahead next (omega arith) h .0) (λ j m. let k = at-place j m in subst (Ahead job t (by next)) (k .3) (go (k .0) (k .1) (k .2)))
+      ahead-pick = pick-is (by next) rest (s .ahead next (omega arith) h .0)
+          (λ j m. let k = at-place j m in subst (Ahead job t (by next)) (k .3) (go (k .0) (k .1) (k .2)))
         where
           go : (k : ℕ) → next ≤ k → k < n → Ahead job t (by next) (by k)
           go k g l = cases (compare next k) (compared next k)
             where
-              by-release : next < k → (job (by next) .release < job (by k) .release) ⊎ ((job (by next) .release ≡ job (by k) .release) × (by next < by k)) → Ahead job t (by next) (by k)
+              by-release : next < k → (job (by next) .release < job (by k) .release) ⊎
+                  ((job (by next) .release ≡ job (by k) .release) × (by next < by k)) → Ahead job t (by next) (by k)
               by-release d (inl x) = sooner x (late k g l)
               by-release d (inr x) =
-                  ranked (omega (arith, x .0)) (r .in-rank (by next) (by k) (r .by-release .rows next h .0) (x .1) (r .by-release .rows k l .1))
+                  ranked (omega (arith, x .0)) (r .in-rank (by next) (by k) (r .by-release .rows next h .0) (x .1)
+                  (r .by-release .rows k l .1))
 
               cases : (o : Ordering) → Compared next k o → Ahead job t (by next) (by k)
               cases Ordering·lt d = by-release d (r .by-release .sorted next k d l)
@@ -92,8 +98,11 @@ module _ {n : ℕ} {job : ℕ → Job} {by : ℕ → ℕ} (r : Tables n job by) 
       pub ahead-picks : {j k : ℕ} → k ≡ by next → Front n by 0 (next + 1) j → (k ≡ firstPick job t rest) × (j ≡ secondPick job t rest)
       unfolding stands-next
       ahead-picks {j} e f =
-          let l = subst (Least (s .set)) none least in
-          (e ∙ ahead-pick, second-is job t rest (by next) j ahead-pick (f job t (without (by next) rest) ws r (stands-next r s h) l (λ k u v. late k (omega arith) v)))
+          let l = subst (Least (s .set)) none least in (
+            e ∙ ahead-pick,
+            second-is job t rest (by next) j ahead-pick
+                (f job t (without (by next) rest) ws r (stands-next r s h) l (λ k u v. late k (omega arith) v)),
+          )
 
     -- With no place ahead none is left over.
     none-left : n ≤ next → rest ≡ []

@@ -17,7 +17,8 @@ unfolding without
 kept-without j i [] m n = m
 kept-without j i (k ∷ ks) m n = go (eqb i k) refl (List·Memᴰ·cases-cons m) (λ o. kept-without j i ks o n)
   where
-    go : (c : Bool) → eqb i k ≡ c → (j ≡ k) ⊎ List·Memᴰ j ks → (List·Memᴰ j ks → List·Memᴰ j (without i ks)) → List·Memᴰ j (cond c ks (k ∷ without i ks))
+    go : (c : Bool) → eqb i k ≡ c → (j ≡ k) ⊎ List·Memᴰ j ks → (List·Memᴰ j ks → List·Memᴰ j (without i ks)) → List·Memᴰ j
+        (cond c ks (k ∷ without i ks))
     go true e (inl x) f = absurd (n (x ∙ sym (eqb-true i k e)))
     go true e (inr o) f = o
     go false e (inl x) f = List·Memᴰ·head x

@@ -129,7 +129,8 @@ module _ {p : ℕ → Bool} (q : ℕ) (before : Clear p q) where
 -- the word q, and w is that word.
 abbrev pub Passed : List ℕ → (i q w : ℕ) → Type 0
 Passed ws i q w =
-    (p : ℕ → Bool) → Words p ws → p i ≡ true → ((j : ℕ) → j < i → p j ≡ false) → (w ≡ word (mark i false p) (64 * q) 64) × Clear (mark i false p) q
+    (p : ℕ → Bool) → Words p ws → p i ≡ true → ((j : ℕ) → j < i → p j ≡ false) → (w ≡ word (mark i false p) (64 * q) 64) × Clear
+    (mark i false p) q
 
 module _ {ws : List ℕ} (i : ℕ) where
   pub passed-first : i < 320 → Passed ws i (i / 64) (getD ws (i / 64) 0 - power i)

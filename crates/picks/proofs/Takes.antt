@@ -20,12 +20,14 @@ use Rattle.picks.proofs.Standings.{stands-away, stands-later, in-set}
 abbrev Away : List ℕ → ℕ → List ℕ → Type 0
 Away ws i less = (p : ℕ → Bool) → Words p ws → p i ≡ true → Words (mark i false p) less
 
-module _ {n : ℕ} {job : ℕ → Job} {by : ℕ → ℕ} (r : Tables n job by) {rest : List ℕ} {s : Standing} (g : Sits n job by rest s) {i : ℕ} (m : List·Memᴰ i rest) where
+module _ {n : ℕ} {job : ℕ → Job} {by : ℕ → ℕ} (r : Tables n job by) {rest : List ℕ} {s : Standing} (g : Sits n job by rest s) {i : ℕ}
+    (m : List·Memᴰ i rest) where
   -- The row is one of the columns' rows, and the numbers are small.
   pub row-high : i ≤ mostRows
   row-high = omega (arith, g .stands .rows i m .1, r .few)
 
-  pub can-take : Limits job → (s .desk .minute ≤ 1000000000) × (job i .release ≤ 1000000000) × (job i .length ≤ 1000000000) × (job i .due ≤ 2147483647)
+  pub can-take : Limits job → (s .desk .minute ≤ 1000000000) × (job i .release ≤ 1000000000) × (job i .length ≤ 1000000000) ×
+      (job i .due ≤ 2147483647)
   can-take k = (
     omega (arith, g .minutes),
     omega (arith, k .releases i),
@@ -52,7 +54,8 @@ module _ {n : ℕ} {job : ℕ → Job} {by : ℕ → ℕ} (r : Tables n job by) 
       pub can-clear : (i < 320) × ((p : ℕ → Bool) × Words p more × (p i ≡ true))
       can-clear = (omega (arith, row-high), (a .0 .set, a .0 .words, on))
 
-      pub taken : Limits job → {less : List ℕ} → Away more i less → Taken n job by rest s i (record { desk = d; count = s .count + 1; next = next; ready = less })
+      pub taken : Limits job → {less : List ℕ} → Away more i less → Taken n job by rest s i
+          (record { desk = d; count = s .count + 1; next = next; ready = less })
       unfolding finish
       taken k f = record {
         sits = record {

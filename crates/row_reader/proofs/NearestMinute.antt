@@ -1,7 +1,8 @@
 -- Laws of the length of a row: it lies between 1 and 30,000, and is the reading time to the nearest minute, an exact half going up.
 -- Assumes nothing.
 use Prim.Native.Nat.{ℕ, _+_, _*_, _/_, _≤_, _<_}
-use native.Mathlib.Nat.{add-mul, one-mul, mul-left-comm, mul-le-mul-right, le-of-lt, le-of-eq, div-mul-le-self, lt-div-mul-add, le-div-iff-mul-le, div-lt-iff-lt-mul}
+use native.Mathlib.Nat.{add-mul, one-mul, mul-left-comm, mul-le-mul-right, le-of-lt, le-of-eq, div-mul-le-self, lt-div-mul-add}
+use native.Mathlib.Nat.{le-div-iff-mul-le, div-lt-iff-lt-mul}
 use native.Mathlib.Decide.{decLt}
 use native.Mathlib.Omega.{arith}
 use mathlib.Core.Path.{_≡_, refl, ap}

@@ -4,7 +4,8 @@ use Prim.Native.Nat.{ℕ, _≤_, _<_}
 use native.Mathlib.Omega.{arith}
 use mathlib.Core.Bool.{Bool, true, false, cond}
 use mathlib.Core.Path.{_≡_, refl, sym, ap, _∙_, subst}
-use mathlib.Core.List.{List, [], _∷_, List·Permᴰ, List·Permᴰ·nil, List·Permᴰ·cons, List·Permᴰ·swap, List·Permᴰ·trans, Permᴰ·refl, List·Memᴰ, List·Memᴰ·head, List·Memᴰ·not-nil, List·Memᴰ·cases-cons, List·Memᴰ·eq-of-singleton}
+use mathlib.Core.List.{List, [], _∷_, List·Permᴰ, List·Permᴰ·nil, List·Permᴰ·cons, List·Permᴰ·swap, List·Permᴰ·trans, Permᴰ·refl}
+use mathlib.Core.List.{List·Memᴰ, List·Memᴰ·head, List·Memᴰ·not-nil, List·Memᴰ·cases-cons, List·Memᴰ·eq-of-singleton}
 use mathlib.Core.Logic.{_⊎_, inl, inr}
 use mathlib.Core.Option.{none, some, Option·none-ne-some, Option·some-injective}
 use lib.Dec.{T, not-T}
@@ -44,7 +45,8 @@ module _ (job : ℕ → Job) where
   placed-perm i [] = Permᴰ·refl (i ∷ [])
   placed-perm i (j ∷ js) = step (comesBefore job i j) (placed-perm i js)
     where
-      step : (b : Bool) → List·Permᴰ (placedByArrival job i js) (i ∷ js) → List·Permᴰ (cond b (i ∷ j ∷ js) (j ∷ placedByArrival job i js)) (i ∷ j ∷ js)
+      step : (b : Bool) → List·Permᴰ (placedByArrival job i js) (i ∷ js) → List·Permᴰ (cond b (i ∷ j ∷ js) (j ∷ placedByArrival job i js))
+          (i ∷ j ∷ js)
       step true p = Permᴰ·refl (i ∷ j ∷ js)
       step false p = List·Permᴰ·trans (List·Permᴰ·cons refl p) (List·Permᴰ·swap refl refl)
 
@@ -53,7 +55,8 @@ module _ (job : ℕ → Job) where
   arrival-perm [] = List·Permᴰ·nil
   arrival-perm (i ∷ is) = List·Permᴰ·trans (placed-perm i (byArrival job is)) (List·Permᴰ·cons refl (arrival-perm is))
 
-  all-come : (j i : ℕ) (js : List ℕ) → Comes job j i → ((k : ℕ) → List·Memᴰ k js → Comes job j k) → (k : ℕ) → List·Memᴰ k (i ∷ js) → Comes job j k
+  all-come : (j i : ℕ) (js : List ℕ) → Comes job j i → ((k : ℕ) → List·Memᴰ k js → Comes job j k) → (k : ℕ) → List·Memᴰ k (i ∷ js) →
+      Comes job j k
   all-come j i js c f k m = step (List·Memᴰ·cases-cons m)
     where
       step : (k ≡ i) ⊎ List·Memᴰ k js → Comes job j k
@@ -65,7 +68,8 @@ module _ (job : ℕ → Job) where
   placed-sorted i [] s = (λ k m. absurd (List·Memᴰ·not-nil m), tt)
   placed-sorted i (j ∷ js) s = step (comesBefore job i j) refl (placed-sorted i js (s .1))
     where
-      step : (b : Bool) → comesBefore job i j ≡ b → Sorted (Comes job) (placedByArrival job i js) → Sorted (Comes job) (cond b (i ∷ j ∷ js) (j ∷ placedByArrival job i js))
+      step : (b : Bool) → comesBefore job i j ≡ b → Sorted (Comes job) (placedByArrival job i js) → Sorted (Comes job)
+          (cond b (i ∷ j ∷ js) (j ∷ placedByArrival job i js))
       step true e f = let c = before-comes job i j e .0 in (all-come i j js c (λ k m. comes-trans job c (s .0 k m)), s)
       step false e f = (perm-all (Comes job j) (placed-perm i js) (all-come j i js (not-before-comes job i j e) (s .0)), f)
 
@@ -82,7 +86,8 @@ module _ (job : ℕ → Job) where
   jobs-arrive : (order : List ℕ) → Sorted (Comes job) order → JobsByArrival (jobs job order)
   jobs-arrive [] s = tt
   jobs-arrive (i ∷ is) s = (
-    on-jobs job (λ j. (job i .release ≤ j .release) × (j .release ≤ job i .release → job i .due ≤ j .due)) is (λ k m. (s .0 k m .by-release, s .0 k m .by-due)),
+    on-jobs job (λ j. (job i .release ≤ j .release) × (j .release ≤ job i .release → job i .due ≤ j .due)) is
+        (λ k m. (s .0 k m .by-release, s .0 k m .by-due)),
     jobs-arrive is (s .1),
   )
 
@@ -123,7 +128,8 @@ module _ (job : ℕ → Job) (t : ℕ) (left : List ℕ) (uncrossed : Uncrossed 
   in-order order o = jobs-order job (length left) left order refl (tried left o)
 
   better : (bias : ℕ) (order : List ℕ) → OrderOf left order → Better bias t (jobs job order) (jobs job order₁)
-  better bias order o = arrival-best jobs-uncrossed (jobs-arrive job order₁ (arrival-sorted job left)) (in-order order₁ whole₁) (in-order order o)
+  better bias order o = arrival-best jobs-uncrossed (jobs-arrive job order₁ (arrival-sorted job left)) (in-order order₁ whole₁)
+      (in-order order o)
 
   some-rows : (order : List ℕ) → OrderOf left order → 0 < length order
   some-rows order o = omega (arith, perm-count o .0, some-row)
@@ -149,7 +155,8 @@ module _ (job : ℕ → Job) (t : ℕ) (left : List ℕ) (uncrossed : Uncrossed 
       (λ p m. let s = plans-sound job t left p m in
       let n = no-worse-pair p (s .found) in
       List·Memᴰ·head (sym (alike pair₁ p n (unbeaten-worse pair₁ p (s .none-beats pair₁ attained₁) n))))
-      (λ p m. subst (λ (q : Pair). List·Memᴰ q (plans job t left)) (sym (List·Memᴰ·eq-of-singleton m)) (plans-complete job t left pair₁ (record {
+      (λ p m. subst (λ (q : Pair). List·Memᴰ q (plans job t left)) (sym (List·Memᴰ·eq-of-singleton m))
+      (plans-complete job t left pair₁ (record {
         found = attained₁;
         none-beats = λ q n. not-T (beats q pair₁) (λ b. beats-worse q pair₁ b .1 (no-worse-pair q n));
       })))
@@ -174,7 +181,8 @@ module _ (job : ℕ → Job) (t : ℕ) (left : List ℕ) (uncrossed : Uncrossed 
   holds : PlansPromise job t left (arrivalFor job t left)
   holds = record {
     best = λ y order e. let k = for-kept y order e in
-        subst (λ (o : List ℕ). OrderOf left o × (pairOf job t o .late ≤ℤ y) × ((other : List ℕ) → OrderOf left other → pairOf job t other .late ≤ℤ y → endOf job t o ≤ endOf job t other))
+        subst (λ (o : List ℕ). OrderOf left o × (pairOf job t o .late ≤ℤ y) ×
+        ((other : List ℕ) → OrderOf left other → pairOf job t other .late ≤ℤ y → endOf job t o ≤ endOf job t other))
         (k .1) (whole₁, k .0, λ other o g. no-worse other o .0);
     unkept = λ y. (
       λ e order o k. Option·none-ne-some order₁ (sym e ∙ arrival-within job t left y (through order o k)),
@@ -185,8 +193,11 @@ module _ (job : ℕ → Job) (t : ℕ) (left : List ℕ) (uncrossed : Uncrossed 
     rising = rises job t left;
     few = (some-plan job t left, omega (arith, ap {B = ℕ} length one-plan, some-row));
     attains = λ p m.
-        let e : p ≡ pair₁ = List·Memᴰ·eq-of-singleton (subst (List·Memᴰ p) one-plan m) in
-        (order₁, arrival-within job t left (p .late) (subst (λ (q : Pair). pair₁ .late ≤ℤ q .late) (sym e) (signed (omega arith))), (whole₁, sym e));
+        let e : p ≡ pair₁ = List·Memᴰ·eq-of-singleton (subst (List·Memᴰ p) one-plan m) in (
+          order₁,
+          arrival-within job t left (p .late) (subst (λ (q : Pair). pair₁ .late ≤ℤ q .late) (sym e) (signed (omega arith))),
+          (whole₁, sym e),
+        );
   }
 
 pub arrival-promised : ArrivalPromised
@@ -214,7 +225,8 @@ module _ (job : ℕ → Job) where
     strict is (λ k. omega (arith, c k)) (s .1),
   )
 
-pub arrival-list : (n : ℕ) (job : ℕ → Job) (by : List ℕ) → ByArrival n job (at by) → n ≤ length by → take n by ≡ byArrival job (countFrom 1 n)
+pub arrival-list : (n : ℕ) (job : ℕ → Job) (by : List ℕ) → ByArrival n job (at by) → n ≤ length by → take n by ≡ byArrival job
+    (countFrom 1 n)
 arrival-list n job by a long =
     sorted-unique (Before job) (one-way job) (take n by) (byArrival job rows) (places-sorted (Before job) n by (a .sorted))
     (strict job (byArrival job rows) (λ k. omega (arith, p .1 k, count-once k 1 n)) (arrival-sorted job rows)) down up

@@ -21,8 +21,11 @@ pub beats-worse : (p q : Pair) → T (beats p q) → NoWorse p q × ¬ NoWorse q
 unfolding beats
 beats-worse p q t =
     let a = parts (leb (p .end) (q .end) && leZ (p .late) (q .late)) (ltb (p .end) (q .end) || ltZ (p .late) (q .late)) t in
-    let b = parts (leb (p .end) (q .end)) (leZ (p .late) (q .late)) (a .0) in
-    ((leb→le (p .end) (q .end) (b .0), leZ→ (p .late) (q .late) (b .1)), λ n. less n (or-cases (ltb (p .end) (q .end)) (ltZ (p .late) (q .late)) (a .1)))
+    let b = parts (leb (p .end) (q .end)) (leZ (p .late) (q .late)) (a .0) in (
+      (leb→le (p .end) (q .end) (b .0), leZ→ (p .late) (q .late) (b .1)),
+      λ n. less n
+          (or-cases (ltb (p .end) (q .end)) (ltZ (p .late) (q .late)) (a .1)),
+    )
   where
     less : NoWorse q p → T (ltb (p .end) (q .end)) ⊎ T (ltZ (p .late) (q .late)) → ⊥
     less n (inl t) = omega (arith, n .0, ltb→lt (p .end) (q .end) t)

@@ -51,7 +51,8 @@ module _ {job : ℕ → Job} {t : ℕ} {left : List ℕ} (a : Plannable job t le
   -- As the theory says it.
   agree : Agree (jobs job left)
   agree i j m n =
-      on-jobs job (λ i. (j : Job) → In j (jobs job left) → i .due < j .due → i .release + i .length + j .due ≤ j .release + j .length + i .due) left
+      on-jobs job (λ i. (j : Job) → In j (jobs job left) → i .due < j .due →
+      i .release + i .length + j .due ≤ j .release + j .length + i .due) left
       (λ i m. on-jobs job (λ j. job i .due < j .due → job i .release + job i .length + j .due ≤ j .release + j .length + job i .due) left
       (λ j n. a .agreeing i j m n)) i m j n
 
@@ -63,14 +64,20 @@ module _ {job : ℕ → Job} {t : ℕ} {left : List ℕ} (a : Plannable job t le
       record {
         whole = takes-orders (length left) order left (f .whole) (f .takes);
         kept = kept-keeps job y t order (for-keeps (f .is-for));
-        soonest = λ other o k. omega (arith, for-best agree (f .is-for) (order-in o) (keeps-kept job y t other k), jobs-end job t order, jobs-end job t other);
+        soonest = λ other o k. omega (
+          arith,
+          for-best agree (f .is-for) (order-in o) (keeps-kept job y t other k),
+          jobs-end job t order,
+          jobs-end job t other,
+        );
       }
     where
       f : FoundOrder job y t left order
       f = subst (Found job y t left) e (order-found job t left y)
 
   pub none-keeps : (y : ℤ) → orderFor job t left y ≡ none → (order : List ℕ) → Tried left order → ¬ T (keeps job y t order)
-  none-keeps y e order o k = no-keeps agree (subst (Found job y t left) e (order-found job t left y)) (order-in o) (keeps-kept job y t order k)
+  none-keeps y e order o k = no-keeps agree (subst (Found job y t left) e (order-found job t left y)) (order-in o)
+      (keeps-kept job y t order k)
 
   pub none-for : (y : ℤ) → ((order : List ℕ) → Tried left order → ¬ T (keeps job y t order)) → orderFor job t left y ≡ none
   none-for y h = step (orderFor job t left y) refl
@@ -90,7 +97,8 @@ module _ {job : ℕ → Job} {t : ℕ} {left : List ℕ} (a : Plannable job t le
   kept-pair y order o k = late-keeps job y t order (order-some o) k
 
   -- A bound that is kept: the pair of its order is attained, keeps it, and ends no later than any that does.
-  pub soonest-pair : (y : ℤ) (order : List ℕ) → orderFor job t left y ≡ some order → (q : Pair) → List·Memᴰ q (attained job t left) → q .late ≼ y → pairOf job t order .end ≤ q .end
+  pub soonest-pair : (y : ℤ) (order : List ℕ) → orderFor job t left y ≡ some order → (q : Pair) → List·Memᴰ q (attained job t left) →
+      q .late ≼ y → pairOf job t order .end ≤ q .end
   soonest-pair y order e q m k =
       let u = pair-order job t left q m in
       subst (λ (z : Pair). pairOf job t order .end ≤ z .end) (u .2)

@@ -62,9 +62,14 @@ module _ (job : ℕ → Job) where
     tested : (T (comesBefore job i j) → Comes i j × ¬ (i ≡ j)) × (T (not (comesBefore job i j)) → Comes j i)
     unfolding comesBefore
     tested =
-        ahead-says (job i .release) (job j .release) _ (λ r. (release-comes r, λ e. omega (arith, ap (λ (k : ℕ). job k .release) e))) release-comes (λ r.
-        ahead-says (job i .due) (job j .due) _ (λ d. (due-comes r d, λ e. omega (arith, ap (λ (k : ℕ). job k .due) e))) (due-comes (sym r)) (λ d.
-        (λ h. let l : i < j = ltb→lt i j h in (row-comes r d (omega arith), λ e. omega arith), λ h. row-comes (sym r) (sym d) (nltb→le i j h))))
+        ahead-says (job i .release) (job j .release) _
+        (λ r. (release-comes r, λ e. omega (arith, ap (λ (k : ℕ). job k .release) e))) release-comes (λ r.
+        ahead-says (job i .due) (job j .due) _ (λ d. (due-comes r d, λ e. omega (arith, ap (λ (k : ℕ). job k .due) e)))
+        (due-comes (sym r)) (λ d. (
+          λ h. let l : i < j = ltb→lt i j h in (row-comes r d (omega arith), λ e. omega arith),
+          λ h. row-comes (sym r) (sym d)
+              (nltb→le i j h),
+        )))
 
     pub before-comes : comesBefore job i j ≡ true → Comes i j × ¬ (i ≡ j)
     before-comes e = tested .0 (is-true _ e)

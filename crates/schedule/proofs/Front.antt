@@ -135,7 +135,8 @@ unfolding placedByEnd
 placed-rising q [] h = (tt, tt)
 placed-rising q (r ∷ rs) h = go (compare (q .end) (r .end)) (compared (q .end) (r .end)) (placed-rising q rs (h .1))
   where
-    go : (o : Ordering) → Compared (q .end) (r .end) o → Rising (placedByEnd q rs) → Rising (byOrder o (q ∷ r ∷ rs) (r ∷ rs) (r ∷ placedByEnd q rs))
+    go : (o : Ordering) → Compared (q .end) (r .end) o → Rising (placedByEnd q rs) → Rising
+        (byOrder o (q ∷ r ∷ rs) (r ∷ rs) (r ∷ placedByEnd q rs))
     go Ordering·lt c f = ((c, above-less c rs (h .0)), h)
     go Ordering·eq c f = h
     go Ordering·gt c f = (placed-above q rs c (h .0), f)
@@ -201,7 +202,8 @@ above-mem {e} (p ∷ ps) {r} a m = go (List·Memᴰ·cases-cons m) (above-mem ps
     go (inr n) f = f n
 
 -- Two lists with rising ends and the same pairs are equal: the list is fixed by what is on it.
-pub rising-unique : (l m : List Pair) → Rising l → Rising m → ((p : Pair) → List·Memᴰ p l → List·Memᴰ p m) → ((p : Pair) → List·Memᴰ p m → List·Memᴰ p l) → l ≡ m
+pub rising-unique : (l m : List Pair) → Rising l → Rising m → ((p : Pair) → List·Memᴰ p l → List·Memᴰ p m) →
+    ((p : Pair) → List·Memᴰ p m → List·Memᴰ p l) → l ≡ m
 rising-unique l m h k = sorted-unique Sooner (λ p q h k. omega arith) l m (sorted l h) (sorted m k)
   where
     Sooner : Pair → Pair → Type 0

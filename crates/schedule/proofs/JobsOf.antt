@@ -66,12 +66,16 @@ module _ (job : ℕ → Job) where
   unfolding atMost latenesses
   keeps-kept y t [] h = tt
   keeps-kept y t (i ∷ is) h =
-      let p = parts (leZ (lateness job t i) y) (keeps job y (finish (job i) t) is) h in
-      (omega (arith, leZ→ (lateness job t i) y (p .0), sub-level (finish (job i) t) (job i .due)), keeps-kept y (finish (job i) t) is (p .1))
+      let p = parts (leZ (lateness job t i) y) (keeps job y (finish (job i) t) is) h in (
+        omega (arith, leZ→ (lateness job t i) y (p .0), sub-level (finish (job i) t) (job i .due)),
+        keeps-kept y (finish (job i) t) is
+            (p .1),
+      )
 
   pub kept-keeps : (y : ℤ) (t : ℕ) (order : List ℕ) → Keeps (down y) (up y) t (jobs order) → T (keeps job y t order)
   unfolding atMost latenesses
   kept-keeps y t [] h = tt
   kept-keeps y t (i ∷ is) h =
       both (leZ (lateness job t i) y) (keeps job y (finish (job i) t) is)
-      (→leZ (lateness job t i) y (omega (arith, h .0, sub-level (finish (job i) t) (job i .due)))) (kept-keeps y (finish (job i) t) is (h .1))
+      (→leZ (lateness job t i) y (omega (arith, h .0, sub-level (finish (job i) t) (job i .due))))
+      (kept-keeps y (finish (job i) t) is (h .1))

@@ -23,10 +23,12 @@ use Rattle.schedule.proofs.Beats.{NoWorse, unbeaten-worse, alike}
 use Rattle.schedule.proofs.Front.{Listed, Rising, above-mem, plans-sound, plans-complete, plans-rising, rising-unique}
 use Rattle.schedule.proofs.Pareto.{listed-below, Lists, lists-none, lists-more}
 use Rattle.schedule.proofs.JobsOf.{jobs}
-use Rattle.schedule.proofs.Best.{Plannable, Tried, best-for, order-pair, pair-order, pair-kept, kept-pair, soonest-pair, no-pair, end-at}
+use Rattle.schedule.proofs.Best.{Plannable, Tried, best-for, order-pair, pair-order, pair-kept, kept-pair, soonest-pair, no-pair}
+use Rattle.schedule.proofs.Best.{end-at}
 
 -- Rising ends, each one that a function takes at a job: no more than there are jobs.
-pigeon : (F : Job → ℕ) (ps : List Pair) (N : List Job) → Rising ps → ((p : Pair) → List·Memᴰ p ps → (j : Job) × In j N × (p .end ≡ F j)) → length ps ≤ length N
+pigeon : (F : Job → ℕ) (ps : List Pair) (N : List Job) → Rising ps → ((p : Pair) → List·Memᴰ p ps → (j : Job) × In j N × (p .end ≡ F j)) →
+    length ps ≤ length N
 pigeon F [] N r h = omega arith
 pigeon F (p ∷ ps) N r h =
     let u = h p (List·Memᴰ·head refl) in
@@ -35,7 +37,8 @@ pigeon F (p ∷ ps) N r h =
       arith,
       ins-length (i .1),
       pigeon F ps (i .0) (r .1) (λ q m. let v = h q (List·Memᴰ·tail m) in
-          ins-on (λ j. q .end ≡ F j → (k : Job) × In k (i .0) × (q .end ≡ F k)) (i .1) (λ e. absurd (omega (arith, u .2, above-mem ps (r .0) m))) (λ j n e. (j, n, e)) (v .0) (v .1) (v .2)),
+          ins-on (λ j. q .end ≡ F j → (k : Job) × In k (i .0) × (q .end ≡ F k)) (i .1)
+          (λ e. absurd (omega (arith, u .2, above-mem ps (r .0) m))) (λ j n e. (j, n, e)) (v .0) (v .1) (v .2)),
     )
 
 mem-length : {p : Pair} (ps : List Pair) → List·Memᴰ p ps → 0 < length ps
@@ -63,7 +66,8 @@ module _ (job : ℕ → Job) (t : ℕ) (left : List ℕ) where
 
 module _ {job : ℕ → Job} {t : ℕ} {left : List ℕ} (a : Plannable job t left) where
   -- The order for the lateness of a listed pair has that pair.
-  pub attained-for : (p : Pair) → List·Memᴰ p (plans job t left) → (order : List ℕ) × (orderFor job t left (p .late) ≡ some order) × (pairOf job t order ≡ p)
+  pub attained-for : (p : Pair) → List·Memᴰ p (plans job t left) → (order : List ℕ) × (orderFor job t left (p .late) ≡ some order) ×
+      (pairOf job t order ≡ p)
   attained-for p m = step (orderFor job t left (p .late)) refl
     where
       l : Listed (attained job t left) p
@@ -74,7 +78,11 @@ module _ {job : ℕ → Job} {t : ℕ} {left : List ℕ} (a : Plannable job t le
       step (some order) e =
           let b = best-for a (p .late) order e in
           let q : Pair = pairOf job t order in
-          let n : NoWorse q p = (soonest-pair a (p .late) order e p (l .found) (omega arith), pair-kept a (p .late) order (b .whole) (b .kept)) in
+          let n : NoWorse q p = (
+            soonest-pair a (p .late) order e p (l .found) (omega arith),
+            pair-kept a (p .late) order (b .whole)
+                (b .kept),
+          ) in
           (order, refl, alike q p n (unbeaten-worse q p (l .none-beats q (order-pair job t left order (b .whole))) n))
 
   pub few-plans : length (plans job t left) ≤ length left
@@ -93,7 +101,8 @@ module _ {job : ℕ → Job} {t : ℕ} {left : List ℕ} (a : Plannable job t le
   late-least fits q m =
       let u = pair-order job t left q m in
       let w = fits (u .0) (orders-perm (length left) left (u .0) refl (u .1)) .0 in
-      subst (λ (z : Pair). down (z .late) ≤ up (z .late) + 2147483648) (u .2) (omega (arith, leZ→ (negsuc 2147483647) (pairOf job t (u .0) .late) (w .le)))
+      subst (λ (z : Pair). down (z .late) ≤ up (z .late) + 2147483648) (u .2)
+      (omega (arith, leZ→ (negsuc 2147483647) (pairOf job t (u .0) .late) (w .le)))
 
 module _ {job : ℕ → Job} {t : ℕ} {left : List ℕ} (a : Plannable job t left) (fits : Fits32 job t left) where
   -- With questions enough, asking from y down gives the plans that are late by at most y.
@@ -102,17 +111,21 @@ module _ {job : ℕ → Job} {t : ℕ} {left : List ℕ} (a : Plannable job t le
   list-from zero y h = lists-none (attained job t left) y (λ q m k. omega (arith, late-least a fits q m))
   list-from (suc n) y h = step (orderFor job t left y) refl (λ z g. list-from n z g)
     where
-      step : (o : Option (List ℕ)) → orderFor job t left y ≡ o → ((z : ℤ) → up z + 2147483648 < n + down z → Lists (attained job t left) z (listFrom job t left n z)) →
-          Lists (attained job t left) y (elim o [ none ↦ [] | some order ↦ aheadOf (pairOf job t order) (listFrom job t left n (predℤ (pairOf job t order .late))) ])
+      step : (o : Option (List ℕ)) → orderFor job t left y ≡ o →
+          ((z : ℤ) → up z + 2147483648 < n + down z → Lists (attained job t left) z (listFrom job t left n z)) →
+          Lists (attained job t left) y
+          (elim o [ none ↦ [] | some order ↦ aheadOf (pairOf job t order) (listFrom job t left n (predℤ (pairOf job t order .late))) ])
       step none e below = lists-none (attained job t left) y (no-pair a y e)
       step (some order) e below =
           let b = best-for a y order e in
           let p : Pair = pairOf job t order in
           let k = pair-kept a y order (b .whole) (b .kept) in
-          lists-more (attained job t left) y p (listFrom job t left n (predℤ (p .late))) (order-pair job t left order (b .whole)) k (soonest-pair a y order e)
+          lists-more (attained job t left) y p (listFrom job t left n (predℤ (p .late))) (order-pair job t left order (b .whole)) k
+          (soonest-pair a y order e)
           (below (predℤ (p .late)) (omega (arith, k, pred-level (p .late))))
 
-  pub same-from : (n : ℕ) (y : ℤ) → up y + 2147483648 < n + down y → ((order : List ℕ) → Tried left order → T (keeps job y t order)) → listFrom job t left n y ≡ plans job t left
+  pub same-from : (n : ℕ) (y : ℤ) → up y + 2147483648 < n + down y → ((order : List ℕ) → Tried left order → T (keeps job y t order)) →
+      listFrom job t left n y ≡ plans job t left
   same-from n y h top =
       let l = list-from n y h in
       rising-unique (listFrom job t left n y) (plans job t left) (l .rise) (plans-rising job t left)

@@ -13,7 +13,8 @@ use Rattle.schedule.specs.Rows.{countFrom, without, withoutAll}
 use Rattle.schedule.specs.Picks.{earliestEnd, outranks}
 use Rattle.schedule.specs.Ranks.{ByRank}
 use Rattle.schedule.proofs.Tests.{is-true}
-use Rattle.schedule.proofs.Orders.{one, count, Same, count-without, length-without, count-mem, mem-count, perm-count, perm-without, mem-without, Takes}
+use Rattle.schedule.proofs.Orders.{one, count, Same, count-without, length-without, count-mem, mem-count, perm-count, perm-without}
+use Rattle.schedule.proofs.Orders.{mem-without, Takes}
 use Rattle.schedule.proofs.Numbers.{count-range, count-once, from-mem}
 use Rattle.schedule.proofs.PickLaws.{ahead-says}
 
@@ -66,7 +67,8 @@ module _ {n : ℕ} {job : ℕ → Job} {row : ℕ → ℕ} (byRank : ByRank n jo
   -- No row has two ranks.
   ranks-differ : (k l : ℕ) → 1 ≤ k → k < l → l ≤ n → ¬ (row k ≡ row l)
   ranks-differ k l h g f e =
-      outranks-other job (row l) (subst (λ (i : ℕ). T (outranks job i (row l))) e (is-true (outranks job (row k) (row l)) (byRank .ranked k l h g f)))
+      outranks-other job (row l) (subst (λ (i : ℕ). T (outranks job i (row l))) e
+      (is-true (outranks job (row k) (row l)) (byRank .ranked k l h g f)))
 
   row-once : (i k m : ℕ) → 1 ≤ k → k + m ≤ suc n → count i (map row (countFrom k m)) ≤ 1
   unfolding count countFrom

@@ -22,7 +22,8 @@ unfolding countFrom
 count-range k zero m = absurd (List·Memᴰ·not-nil m)
 count-range k (suc n) {i} m = step (List·Memᴰ·cases-cons m) (λ m. count-range (suc k) n m)
   where
-    step : (i ≡ k) ⊎ List·Memᴰ i (countFrom (suc k) n) → (List·Memᴰ i (countFrom (suc k) n) → (suc k ≤ i) × (i < suc k + n)) → (k ≤ i) × (i < k + suc n)
+    step : (i ≡ k) ⊎ List·Memᴰ i (countFrom (suc k) n) → (List·Memᴰ i (countFrom (suc k) n) → (suc k ≤ i) × (i < suc k + n)) → (k ≤ i) ×
+        (i < k + suc n)
     step (inl e) f = omega arith
     step (inr m) f = omega (arith, f m)
 
@@ -40,7 +41,8 @@ unfolding count countFrom
 count-once k i zero = omega arith
 count-once k i (suc n) = step (eqb k i) (eqb→eq k i) (count-once k (suc i) n) (λ l. count-none k (suc i) n l)
   where
-    step : (b : Bool) → (T b → k ≡ i) → count k (countFrom (suc i) n) ≤ 1 → (k < suc i → count k (countFrom (suc i) n) ≡ 0) → one b + count k (countFrom (suc i) n) ≤ 1
+    step : (b : Bool) → (T b → k ≡ i) → count k (countFrom (suc i) n) ≤ 1 → (k < suc i → count k (countFrom (suc i) n) ≡ 0) →
+        one b + count k (countFrom (suc i) n) ≤ 1
     step true e f g = let h : k ≡ i = e tt in omega (arith, g (omega arith))
     step false e f g = omega arith
 

@@ -4,7 +4,9 @@ use Prim.Native.Nat.{ℕ, zero, suc, _+_, _≤_, _<_}
 use native.Mathlib.Omega.{arith}
 use mathlib.Core.Bool.{Bool, true, false, cond}
 use mathlib.Core.Path.{_≡_, refl, sym, ap, _∙_, subst}
-use mathlib.Core.List.{List, [], _∷_, _++_, map, flatMap, List·Permᴰ, List·Permᴰ·nil, List·Permᴰ·cons, List·Permᴰ·swap, List·Permᴰ·trans, Permᴰ·refl, List·Memᴰ, List·Memᴰ·head, List·Memᴰ·tail, List·Memᴰ·not-nil, List·Memᴰ·cases-cons, List·Memᴰ·eq-of-singleton, List·Memᴰ·append-cases, Memᴰ·append-left, Memᴰ·append-right, Memᴰ·map}
+use mathlib.Core.List.{List, [], _∷_, _++_, map, flatMap, List·Permᴰ, List·Permᴰ·nil, List·Permᴰ·cons, List·Permᴰ·swap, List·Permᴰ·trans}
+use mathlib.Core.List.{Permᴰ·refl, List·Memᴰ, List·Memᴰ·head, List·Memᴰ·tail, List·Memᴰ·not-nil, List·Memᴰ·cases-cons}
+use mathlib.Core.List.{List·Memᴰ·eq-of-singleton, List·Memᴰ·append-cases, Memᴰ·append-left, Memᴰ·append-right, Memᴰ·map}
 use mathlib.Core.Logic.{_⊎_, inl, inr}
 use lib.Dec.{T, eqb, eqb→eq, eqb-refl}
 use lib.ListN.{length}
@@ -92,12 +94,14 @@ module _ {A B : Type 0} where
   map-cases f [] b m = absurd (List·Memᴰ·not-nil m)
   map-cases f (x ∷ xs) b m = go (List·Memᴰ·cases-cons m) (map-cases f xs b)
     where
-      go : (b ≡ f x) ⊎ List·Memᴰ b (map f xs) → (List·Memᴰ b (map f xs) → (a : A) × List·Memᴰ a xs × (b ≡ f a)) → (a : A) × List·Memᴰ a (x ∷ xs) × (b ≡ f a)
+      go : (b ≡ f x) ⊎ List·Memᴰ b (map f xs) → (List·Memᴰ b (map f xs) → (a : A) × List·Memᴰ a xs × (b ≡ f a)) → (a : A) × List·Memᴰ a
+          (x ∷ xs) × (b ≡ f a)
       go (inl e) g = (x, List·Memᴰ·head refl, e)
       go (inr n) g = let r = g n in (r .0, List·Memᴰ·tail (r .1), r .2)
 
 -- An order's first row is one of the list, and the rest is an order of the others.
-pub orders-make : (n : ℕ) (left : List ℕ) (i : ℕ) (o : List ℕ) → List·Memᴰ i left → List·Memᴰ o (ordersOf n (without i left)) → List·Memᴰ (i ∷ o) (ordersOf (suc n) left)
+pub orders-make : (n : ℕ) (left : List ℕ) (i : ℕ) (o : List ℕ) → List·Memᴰ i left → List·Memᴰ o (ordersOf n (without i left)) → List·Memᴰ
+    (i ∷ o) (ordersOf (suc n) left)
 unfolding ordersOf
 orders-make n left i o m k =
     flat-make (λ j. map (λ order. j ∷ order) (ordersOf n (without j left))) left i (i ∷ o) m (Memᴰ·map (λ order. i ∷ order) k)
@@ -135,7 +139,8 @@ same-orders zero [] [] l k s = List·Memᴰ·head refl
 same-orders zero [] (i ∷ r) l k s = let z : ⊥ = omega arith in absurd z
 same-orders zero (j ∷ js) o l k s = let z : ⊥ = omega arith in absurd z
 same-orders (suc n) left [] l k s = let z : ⊥ = omega arith in absurd z
-same-orders (suc n) left (i ∷ r) l k s = orders-make n left i r m (same-orders n (without i left) r (omega (arith, length-without i left m)) (omega arith) rest)
+same-orders (suc n) left (i ∷ r) l k s = orders-make n left i r m
+    (same-orders n (without i left) r (omega (arith, length-without i left m)) (omega arith) rest)
   where
     m : List·Memᴰ i left
     m = count-mem i left (omega (arith, s i, one-T (eqb i i) (eqb-refl i)))
@@ -168,7 +173,8 @@ unfolding without
 perm-without i [] m = absurd (List·Memᴰ·not-nil m)
 perm-without i (j ∷ js) m = go (eqb i j) refl (List·Memᴰ·cases-cons m) (perm-without i js)
   where
-    go : (b : Bool) → eqb i j ≡ b → (i ≡ j) ⊎ List·Memᴰ i js → (List·Memᴰ i js → List·Permᴰ (i ∷ without i js) js) → List·Permᴰ (i ∷ cond b js (j ∷ without i js)) (j ∷ js)
+    go : (b : Bool) → eqb i j ≡ b → (i ≡ j) ⊎ List·Memᴰ i js → (List·Memᴰ i js → List·Permᴰ (i ∷ without i js) js) → List·Permᴰ
+        (i ∷ cond b js (j ∷ without i js)) (j ∷ js)
     go true e c f = List·Permᴰ·cons (eqb→eq i j (subst T (sym e) tt)) (Permᴰ·refl js)
     go false e (inl h) f = absurd (subst T (ap (eqb i) h ∙ e) (eqb-refl i))
     go false e (inr n) f = List·Permᴰ·trans (List·Permᴰ·swap refl refl) (List·Permᴰ·cons refl (f n))

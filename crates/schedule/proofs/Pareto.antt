@@ -16,14 +16,16 @@ use Rattle.schedule.proofs.Front.{Listed, Rising, above-less, above-mem
 use Rattle.schedule.proofs.Signed.{up, down, _≼_, pred-level}
 
 -- Below each pair, one that none of the list beats: it, or one of the list.
-below : (all : List Pair) (q : Pair) → (p : Pair) × ((p ≡ q) ⊎ List·Memᴰ p all) × NoWorse p q × ((r : Pair) → List·Memᴰ r all → T (not (beats r p)))
+below : (all : List Pair) (q : Pair) → (p : Pair) × ((p ≡ q) ⊎ List·Memᴰ p all) × NoWorse p q ×
+    ((r : Pair) → List·Memᴰ r all → T (not (beats r p)))
 below [] q = (q, inl refl, (omega arith, omega arith), λ r m. absurd (List·Memᴰ·not-nil m))
 below (x ∷ xs) q = step (beats x q) refl (below xs x) (below xs q)
   where
     Below : Pair → List Pair → Type 0
     Below q all = (p : Pair) × ((p ≡ q) ⊎ List·Memᴰ p all) × NoWorse p q × ((r : Pair) → List·Memᴰ r all → T (not (beats r p)))
 
-    all-of : (p : Pair) → T (not (beats x p)) → ((r : Pair) → List·Memᴰ r xs → T (not (beats r p))) → (r : Pair) → (r ≡ x) ⊎ List·Memᴰ r xs → T (not (beats r p))
+    all-of : (p : Pair) → T (not (beats x p)) → ((r : Pair) → List·Memᴰ r xs → T (not (beats r p))) → (r : Pair) →
+        (r ≡ x) ⊎ List·Memᴰ r xs → T (not (beats r p))
     all-of p h f r (inl e) = subst (λ (z : Pair). T (not (beats z p))) (sym e) h
     all-of p h f r (inr m) = f r m
 
@@ -67,7 +69,8 @@ ahead-rising p (q ∷ qs) h r = step (eqb (p .end) (q .end)) (not-same (p .end) 
             go (no l) = absurd (n (omega arith))
 
 -- One of the new list is one of the old, or the new pair, which then ends before all of the old.
-ahead-sound : (p : Pair) (ps : List Pair) (r : Pair) → Rising (aheadOf p ps) → List·Memᴰ r (aheadOf p ps) → List·Memᴰ r ps ⊎ ((r ≡ p) × ((q : Pair) → List·Memᴰ q ps → p .end < q .end))
+ahead-sound : (p : Pair) (ps : List Pair) (r : Pair) → Rising (aheadOf p ps) → List·Memᴰ r (aheadOf p ps) → List·Memᴰ r ps ⊎
+    ((r ≡ p) × ((q : Pair) → List·Memᴰ q ps → p .end < q .end))
 unfolding aheadOf
 ahead-sound p [] r h m = inr (single (List·Memᴰ·cases-cons m), λ q n. absurd (List·Memᴰ·not-nil n))
   where
@@ -121,9 +124,15 @@ module _ (all : List Pair) where
   lists-none y h = record { rise = tt; sound = λ p m. absurd (List·Memᴰ·not-nil m); complete = λ p l k. absurd (h p (l .found) k) }
 
   -- One more question: the pair found for the bound y, in front of the list from one below its lateness.
-  pub lists-more : (y : ℤ) (p : Pair) (ps : List Pair) → List·Memᴰ p all → p .late ≼ y → ((q : Pair) → List·Memᴰ q all → q .late ≼ y → p .end ≤ q .end) →
+  pub lists-more : (y : ℤ) (p : Pair) (ps : List Pair) → List·Memᴰ p all → p .late ≼ y →
+      ((q : Pair) → List·Memᴰ q all → q .late ≼ y → p .end ≤ q .end) →
       Lists (predℤ (p .late)) ps → Lists y (aheadOf p ps)
-  lists-more y p ps m k soonest l = record { rise = rise; sound = λ r n. old-or-new r (ahead-sound p ps r rise n); complete = λ r h g. by-late r h g (decLe (up (r .late) + down (predℤ (p .late))) (up (predℤ (p .late)) + down (r .late))) }
+  lists-more y p ps m k soonest l = record {
+    rise = rise;
+    sound = λ r n. old-or-new r (ahead-sound p ps r rise n);
+    complete =
+        λ r h g. by-late r h g (decLe (up (r .late) + down (predℤ (p .late))) (up (predℤ (p .late)) + down (r .late)));
+  }
     where
       one : suc (up (predℤ (p .late)) + down (p .late)) ≡ up (p .late) + down (predℤ (p .late))
       one = pred-level (p .late)
@@ -144,7 +153,8 @@ module _ (all : List Pair) where
             less s w e (u .0) (u .1) (u .2) (decLe (up (p .late) + down (s .late)) (up (s .late) + down (p .late))));
       }
         where
-          less : (s : Pair) → NoWorse s p × ¬ NoWorse p s → p .end ≤ s .end → (u : Pair) → Listed all u → NoWorse u s → Dec (p .late ≼ s .late) → ⊥
+          less : (s : Pair) → NoWorse s p × ¬ NoWorse p s → p .end ≤ s .end → (u : Pair) → Listed all u → NoWorse u s → Dec
+              (p .late ≼ s .late) → ⊥
           less s w e u x v (yes g) = w .1 (e, g)
           less s w e u x v (no g) = omega (arith, h u (l .complete u x (omega (arith, v, one))), v, w .0)
 

@@ -24,7 +24,8 @@ ahead-says {P} {Q} a b next less more same = go (compare a b) (compared a b)
 module _ (job : ℕ → Job) where
   -- One step of a run.
   pub run-step : (n t i : ℕ) (is : List ℕ) → decided job t (i ∷ is) ≡ true →
-      runFor job (suc n) t (i ∷ is) ≡ firstPick job t (i ∷ is) ∷ runFor job n (finish (job (firstPick job t (i ∷ is))) t) (others job t (i ∷ is))
+      runFor job (suc n) t (i ∷ is) ≡ firstPick job t (i ∷ is) ∷ runFor job n (finish (job (firstPick job t (i ∷ is))) t)
+      (others job t (i ∷ is))
   unfolding runFor
   run-step n t i is h = rw (h, runFor)
 
@@ -42,7 +43,8 @@ module _ (job : ℕ → Job) where
       weaken (List·Memᴰ·head e) = List·Memᴰ·head e
       weaken (List·Memᴰ·tail m) = List·Memᴰ·tail (List·Memᴰ·tail m)
 
-      go : (b : Bool) → List·Memᴰ (leastOf job t j js) (j ∷ js) → List·Memᴰ (leastOf job t i js) (i ∷ js) → List·Memᴰ (leastOf job t (cond b j i) js) (i ∷ j ∷ js)
+      go : (b : Bool) → List·Memᴰ (leastOf job t j js) (j ∷ js) → List·Memᴰ (leastOf job t i js) (i ∷ js) → List·Memᴰ
+          (leastOf job t (cond b j i) js) (i ∷ j ∷ js)
       go true m k = List·Memᴰ·tail m
       go false m k = weaken k
 
@@ -66,7 +68,13 @@ module _ (job : ℕ → Job) where
       end-ahead l = record { by-ready = omega arith; by-due = λ h. omega arith; by-end = λ h g. omega arith; by-row = λ h g f. omega arith }
 
       row-ahead : earliestEnd (job i) ≡ earliestEnd (job j) → i ≤ j → Ahead t i j
-      row-ahead e l = record { by-ready = omega arith; by-due = λ h. omega arith; by-end = λ h g. omega arith; by-row = λ h g f. omega arith }
+      row-ahead e l = record {
+        by-ready = omega arith;
+        by-due = λ h. omega arith;
+        by-end = λ h g. omega arith;
+        by-row =
+            λ h g f. omega arith;
+      }
 
   pub ahead-refl : (t i : ℕ) → Ahead t i i
   ahead-refl t i = row-ahead refl refl refl (omega arith)
@@ -76,7 +84,12 @@ module _ (job : ℕ → Job) where
     by-ready = omega (arith, a .by-ready, b .by-ready);
     by-due = λ h. omega (arith, a .by-due (readies h .0), b .by-due (readies h .1));
     by-end = λ h g. omega (arith, a .by-end (readies h .0) (dues h g .0), b .by-end (readies h .1) (dues h g .1));
-    by-row = λ h g f. omega (arith, a .by-row (readies h .0) (dues h g .0) (ends h g f .0), b .by-row (readies h .1) (dues h g .1) (ends h g f .1));
+    by-row = λ h g f. omega (
+      arith,
+      a .by-row (readies h .0) (dues h g .0) (ends h g f .0),
+      b .by-row (readies h .1) (dues h g .1)
+          (ends h g f .1),
+    );
   }
     where
       -- Where i and k are equal, j is equal to both.
@@ -123,11 +136,13 @@ module _ (job : ℕ → Job) where
   unfolding leastOf
   least-ahead t i [] m = same-ahead (List·Memᴰ·eq-of-singleton m)
   least-ahead t i (j ∷ js) {k} m =
-      go (before job t j i) (before-ahead t j i) (not-before-ahead t j i) (λ k′ m′. least-ahead t j js {k = k′} m′) (λ k′ m′. least-ahead t i js {k = k′} m′)
+      go (before job t j i) (before-ahead t j i) (not-before-ahead t j i) (λ k′ m′. least-ahead t j js {k = k′} m′)
+      (λ k′ m′. least-ahead t i js {k = k′} m′)
       (List·Memᴰ·cases-cons m)
     where
       go : (b : Bool) → (T b → Ahead t j i) → (T (not b) → Ahead t i j) →
-          ((k : ℕ) → List·Memᴰ k (j ∷ js) → Ahead t (leastOf job t j js) k) → ((k : ℕ) → List·Memᴰ k (i ∷ js) → Ahead t (leastOf job t i js) k) →
+          ((k : ℕ) → List·Memᴰ k (j ∷ js) → Ahead t (leastOf job t j js) k) →
+          ((k : ℕ) → List·Memᴰ k (i ∷ js) → Ahead t (leastOf job t i js) k) →
           (k ≡ i) ⊎ List·Memᴰ k (j ∷ js) → Ahead t (leastOf job t (cond b j i) js) k
       go true first other lj li (inl e) = ahead-trans (lj j (List·Memᴰ·head refl)) (ahead-trans (first tt) (same-ahead e))
       go true first other lj li (inr m) = lj k m

@@ -31,7 +31,8 @@ lowered-lt a b =
     (λ t. →ltZ (lowered a) (lowered b) (omega (arith, ltb→lt a b t, sub-level a 2147483648, sub-level b 2147483648)))
 
 pub late-lowered : (end due : ℕ) → due ≤ 2147483648 → lowered (end + 2147483648 - due) ≡ subℕ end due
-late-lowered end due h = level (lowered (end + 2147483648 - due)) (subℕ end due) (omega (arith, sub-level (end + 2147483648 - due) 2147483648, sub-level end due))
+late-lowered end due h = level (lowered (end + 2147483648 - due)) (subℕ end due)
+    (omega (arith, sub-level (end + 2147483648 - due) 2147483648, sub-level end due))
 
 pub max-lowered : (a b : ℕ) → lowered (max a b) ≡ maxZ (lowered a) (lowered b)
 unfolding maxZ

@@ -50,7 +50,8 @@ module _ (top long n : ℕ) (job : ℕ → Job) where
   keeps-by k t (i ∷ is) h l r =
       let e = step k t i h (r i (List·Memᴰ·head refl)) in
       both (leZ (lateness job t i) (pos (by-now n))) (keeps job (pos (by-now n)) (finish (job i) t) is)
-      (→leZ (lateness job t i) (pos (by-now n)) (omega (arith, e, by-last (suc k) (omega arith), sub-level (finish (job i) t) (job i .due))))
+      (→leZ (lateness job t i) (pos (by-now n))
+      (omega (arith, e, by-last (suc k) (omega arith), sub-level (finish (job i) t) (job i .due))))
       (keeps-by (suc k) (finish (job i) t) is e (omega arith) (λ j m. r j (List·Memᴰ·tail m)))
 
 -- The first row alone is no less late than it can be at least.
@@ -67,12 +68,20 @@ pub in-range : InRange
 unfolding by-now
 in-range top short long late n job t left r some order o =
     let q = perm-count o .0 in
-    let all = perm-all (λ i. (job i .release ≤ top) × (short ≤ job i .length) × (job i .length ≤ long) × (job i .due ≤ late)) o (r .ranges) in
+    let all = perm-all (λ i. (job i .release ≤ top) × (short ≤ job i .length) × (job i .length ≤ long) × (job i .due ≤ late)) o
+    (r .ranges) in
     let early : (i : ℕ) → List·Memᴰ i order → (job i .release ≤ top) × (job i .length ≤ long) = λ i m. (all i m .0, all i m .2) in
     let h : t ≤ top + long * 0 = omega (arith, r .early) in (
       ends-by top long n job 0 t order h (omega (arith, r .few)) early,
-      record { le = →leZ (pairOf job t order .late) (pos (top + long * n)) (keeps-late job (pos (top + long * n)) t order (omega arith) (keeps-by top long n job 0 t order h (omega (arith, r .few)) early)) },
-      record { le = →leZ (subℕ short late) (pairOf job t order .late) (at-least short late job t order (omega arith) (λ i m. (all i m .1, all i m .3))) },
+      record {
+        le = →leZ (pairOf job t order .late) (pos (top + long * n))
+            (keeps-late job (pos (top + long * n)) t order (omega arith)
+            (keeps-by top long n job 0 t order h (omega (arith, r .few)) early));
+      },
+      record {
+        le = →leZ (subℕ short late) (pairOf job t order .late)
+            (at-least short late job t order (omega arith) (λ i m. (all i m .1, all i m .3)));
+      },
     )
 
 -- In ranges small enough every lateness is a signed 32-bit number.

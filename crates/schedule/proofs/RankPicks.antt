@@ -19,7 +19,8 @@ use Rattle.schedule.proofs.Matches.{Rank, Matches, row-in, rank-of, mat
 -- Rows numbered anew from 1 to n: `row k` is the row of the number k, which has its job, and of rows with equal dues and earliest ends
 -- the smaller has the smaller number.
 pub record Renumbers (n : ℕ) (job job′ : ℕ → Job) (row : ℕ → ℕ) : Type 0 where
-  pub ties : (k l : ℕ) → 1 ≤ k → k < l → l ≤ n → job (row l) .due ≤ job (row k) .due → earliestEnd (job (row l)) ≤ earliestEnd (job (row k)) → row k ≤ row l
+  pub ties : (k l : ℕ) → 1 ≤ k → k < l → l ≤ n → job (row l) .due ≤ job (row k) .due → earliestEnd (job (row l)) ≤ earliestEnd
+      (job (row k)) → row k ≤ row l
   pub same : (k : ℕ) → 1 ≤ k → k ≤ n → job′ k ≡ job (row k)
 
 -- A comparison that is no greater, and what follows it.
@@ -37,7 +38,8 @@ pub rank-ties : {n : ℕ} {job : ℕ → Job} {row : ℕ → ℕ} → ByRank n j
 unfolding before ready
 rank-ties {n} {job} {row} byRank k l h c g d e =
     let t : ℕ = job (row k) .release + job (row l) .release in
-    before-ahead job t (row k) (row l) (ahead-next (ready (job (row k)) t) (ready (job (row l)) t) (outranks job (row k) (row l)) (omega arith) (byRank .ranked k l h c g)) .by-row (omega arith) d e
+    before-ahead job t (row k) (row l) (ahead-next (ready (job (row k)) t) (ready (job (row l)) t) (outranks job (row k) (row l))
+    (omega arith) (byRank .ranked k l h c g)) .by-row (omega arith) d e
 
 module _ {n : ℕ} {job job′ : ℕ → Job} {row : ℕ → ℕ} (new : Renumbers n job job′ row) where
   pub job-of : (k : ℕ) → Rank n k → job (row k) ≡ job′ k
@@ -56,10 +58,12 @@ module _ {n : ℕ} {job job′ : ℕ → Job} {row : ℕ → ℕ} (new : Renumbe
       sooner : ready (job (row k)) t ≤ ready (job (row l)) t
       sooner = rw (job-of k h, job-of l g) (a .by-ready)
 
-      tie : ready (job (row l)) t ≤ ready (job (row k)) t → job (row l) .due ≤ job (row k) .due → earliestEnd (job (row l)) ≤ earliestEnd (job (row k)) → k ≤ l
+      tie : ready (job (row l)) t ≤ ready (job (row k)) t → job (row l) .due ≤ job (row k) .due → earliestEnd (job (row l)) ≤ earliestEnd
+          (job (row k)) → k ≤ l
       tie = rw (job-of k h, job-of l g) (a .by-row)
 
-      last : ready (job (row l)) t ≤ ready (job (row k)) t → job (row l) .due ≤ job (row k) .due → earliestEnd (job (row l)) ≤ earliestEnd (job (row k)) →
+      last : ready (job (row l)) t ≤ ready (job (row k)) t → job (row l) .due ≤ job (row k) .due → earliestEnd (job (row l)) ≤ earliestEnd
+          (job (row k)) →
           Dec (k < l) → row k ≤ row l
       last r d e (yes c) = new .ties k l (h .0) c (g .1) d e
       last r d e (no c) = let s : k ≡ l = omega (arith, tie r d e) in omega (arith, ap row s)
@@ -73,7 +77,8 @@ module _ {n : ℕ} {job job′ : ℕ → Job} {row : ℕ → ℕ} (new : Renumbe
   picked : {rows ranks : List ℕ} {i k : ℕ} → Matches n row rows ranks → List·Memᴰ k ranks → i ≡ row k → Picked ranks i k
   picked {k = k} m h e = record { rank-in = h; is-row = e; is-job = ap job e ∙ job-of k (m .among k h) }
 
-  pub first-picked : (t : ℕ) (rows ranks : List ℕ) → Matches n row rows ranks → 0 < length ranks → Picked ranks (firstPick job t rows) (firstPick job′ t ranks)
+  pub first-picked : (t : ℕ) (rows ranks : List ℕ) → Matches n row rows ranks → 0 < length ranks → Picked ranks (firstPick job t rows)
+      (firstPick job′ t ranks)
   unfolding firstPick
   first-picked t [] ranks m l = let z : ⊥ = omega (arith, m .lengths) in absurd z
   first-picked t (i ∷ is) [] m l = let z : ⊥ = omega arith in absurd z
@@ -81,7 +86,8 @@ module _ {n : ℕ} {job job′ : ℕ → Job} {row : ℕ → ℕ} (new : Renumbe
       let k-in = least-mem job′ t k ks in
       let r = rank-of m (least-mem job t i is) in
       let back = row-ahead (m .among _ k-in) (m .among (r .0) (r .1)) (least-ahead job′ t k ks (r .1)) in
-      picked m k-in (ahead-same job (least-ahead job t i is (row-in m k-in)) (subst (λ (j : ℕ). Ahead job t (row (firstPick job′ t (k ∷ ks))) j) (r .2) back))
+      picked m k-in (ahead-same job (least-ahead job t i is (row-in m k-in))
+      (subst (λ (j : ℕ). Ahead job t (row (firstPick job′ t (k ∷ ks))) j) (r .2) back))
 
   module _ (t : ℕ) {rows ranks : List ℕ} (m : Matches n row rows ranks) where
     match-others : 0 < length ranks → Matches n row (others job t rows) (others job′ t ranks)
@@ -114,7 +120,8 @@ module _ {n : ℕ} {job job′ : ℕ → Job} {row : ℕ → ℕ} (new : Renumbe
   runs (suc c) t [] (k ∷ ks) m = let z : ⊥ = omega (arith, m .lengths) in absurd z
   runs (suc c) t (i ∷ is) [] m = let z : ⊥ = omega (arith, m .lengths) in absurd z
   runs (suc c) t (i ∷ is) (k ∷ ks) m =
-      step (decided job′ t (k ∷ ks)) refl (runs c (finish (job′ f) t) (others job t (i ∷ is)) (others job′ t (k ∷ ks)) (match-others t m (omega arith)))
+      step (decided job′ t (k ∷ ks)) refl (runs c (finish (job′ f) t) (others job t (i ∷ is)) (others job′ t (k ∷ ks))
+      (match-others t m (omega arith)))
     where
       f : ℕ
       f = firstPick job′ t (k ∷ ks)
@@ -135,6 +142,7 @@ module _ {n : ℕ} {job job′ : ℕ → Job} {row : ℕ → ℕ} (new : Renumbe
   unfolding run
   same-run t {rows} {ranks} m = ap (λ (c : ℕ). runFor job c t rows) (m .lengths) ∙ runs (length ranks) t rows ranks m
 
-  pub same-block : (t : ℕ) {rows ranks : List ℕ} {i k : ℕ} → Matches n row rows ranks → Picked ranks i k → block job i t rows ≡ map row (block job′ k t ranks)
+  pub same-block : (t : ℕ) {rows ranks : List ℕ} {i k : ℕ} → Matches n row rows ranks → Picked ranks i k → block job i t rows ≡ map row
+      (block job′ k t ranks)
   unfolding block
   same-block t {k = k} m p = rw (p .is-job, p .is-row, same-run (finish (job′ k) t) (match-without m (p .rank-in)))

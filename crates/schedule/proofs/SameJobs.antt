@@ -45,7 +45,8 @@ module _ (job job′ : ℕ → Job) where
   unfolding endOf
   same-end t [] h = refl
   same-end t (i ∷ is) h =
-      ap (λ (j : Job). endOf job (finish j t) is) (h i (List·Memᴰ·head refl)) ∙ same-end (finish (job′ i) t) is (λ k m. h k (List·Memᴰ·tail m))
+      ap (λ (j : Job). endOf job (finish j t) is) (h i (List·Memᴰ·head refl)) ∙ same-end (finish (job′ i) t) is
+      (λ k m. h k (List·Memᴰ·tail m))
 
   same-lates : (t : ℕ) (order : List ℕ) → Same order → latenesses job t order ≡ latenesses job′ t order
   unfolding latenesses
@@ -89,7 +90,8 @@ module _ (job job′ : ℕ → Job) where
   module _ (n : ℕ) (h : Same (countFrom 1 n)) where
     same-orders : (t : ℕ) (y : ℤ) → orderFor job t (countFrom 1 n) y ≡ orderFor job′ t (countFrom 1 n) y
     same-orders t y =
-        let new : Renumbers n job job′ (λ k. k) = record { ties = λ k l h g f a b. omega arith; same = λ k a b. sym (h k (from-mem k 1 n a (omega arith))) } in
+        let new : Renumbers n job job′ (λ k. k) =
+        record { ties = λ k l h g f a b. omega arith; same = λ k a b. sym (h k (from-mem k 1 n a (omega arith))) } in
         let all : Matches n (λ k. k) (countFrom 1 n) (countFrom 1 n) = record {
           among = λ k m. omega (arith, count-range 1 n m);
           counts = λ i. ap (count i) (sym (map-id (countFrom 1 n)));
@@ -106,7 +108,8 @@ module _ (job job′ : ℕ → Job) where
     same-list Ordering t = same-plans t (countFrom 1 n) h
     same-list FirstCome t = ap (λ (p : Pair). p ∷ []) (same-arrival-pair t (countFrom 1 n) h)
 
-    pub same-order : (profile : Profile) (t : ℕ) (y : ℤ) → orderBy profile job t (countFrom 1 n) y ≡ orderBy profile job′ t (countFrom 1 n) y
+    pub same-order : (profile : Profile) (t : ℕ) (y : ℤ) → orderBy profile job t (countFrom 1 n) y ≡ orderBy profile job′ t
+        (countFrom 1 n) y
     unfolding orderBy arrivalFor
     same-order Ordering t y = same-orders t y
     same-order FirstCome t y = λ x.

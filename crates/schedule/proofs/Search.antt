@@ -11,7 +11,8 @@ use lib.Dec.{T, leb, leb→le, nleb→lt}
 use lib.ListN.{length, length-append}
 use lib.IntN.{ℤ}
 use Rattle.schedule.specs.Rows.{without, withoutAll}
-use Rattle.schedule.specs.Picks.{joined, leastOf, firstPick, others, secondPick, decided, runFor, run, block, blockOne, blockTwo, blocksFor, orderFor}
+use Rattle.schedule.specs.Picks.{joined, leastOf, firstPick, others, secondPick, decided, runFor, run, block, blockOne, blockTwo}
+use Rattle.schedule.specs.Picks.{blocksFor, orderFor}
 use Rattle.schedule.specs.Desk.{endOf, keeps}
 use Rattle.schedule.proofs.PickLaws.{Ahead, least-mem, least-ahead, run-step, run-stop}
 use Rattle.schedule.proofs.Orders.{length-without, mem-without, Takes, takes-append, takes-length}
@@ -49,7 +50,8 @@ module _ (job : ℕ → Job) where
   unfolding firstPick others
   length-others t i is = length-without (leastOf job t i is) (i ∷ is) (least-mem job t i is)
 
-  decided-is : (t i : ℕ) (is : List ℕ) → decided job t (i ∷ is) ≡ true → Decided (jobs job (i ∷ is)) t (job (firstPick job t (i ∷ is))) (jobs job (others job t (i ∷ is)))
+  decided-is : (t i : ℕ) (is : List ℕ) → decided job t (i ∷ is) ≡ true → Decided (jobs job (i ∷ is)) t (job (firstPick job t (i ∷ is)))
+      (jobs job (others job t (i ∷ is)))
   unfolding decided secondPick
   decided-is t i is e = step (others job t (i ∷ is)) (length-others t i is) (pick-is t i is) (is-true (decided job t (i ∷ is)) e)
     where
@@ -57,7 +59,8 @@ module _ (job : ℕ → Job) where
       f = firstPick job t (i ∷ is)
 
       step : (os : List ℕ) → length (i ∷ is) ≡ suc (length os) → Pick (jobs job (i ∷ is)) t (job f) (jobs job os) →
-          T (leb (length (i ∷ is)) 1 || leb (job f .due) (job (firstPick job t os) .due)) → Decided (jobs job (i ∷ is)) t (job f) (jobs job os)
+          T (leb (length (i ∷ is)) 1 || leb (job f .due) (job (firstPick job t os) .due)) → Decided (jobs job (i ∷ is)) t (job f)
+          (jobs job os)
       step [] l p h = alone p
       step (k ∷ ks) l p h =
           let d = or-second (leb (length (i ∷ is)) 1) (leb (job f .due) (job (firstPick job t (k ∷ ks)) .due)) h
@@ -100,7 +103,8 @@ module _ (job : ℕ → Job) where
       step (k ∷ ks) l p h = record {
         one = p;
         two = pick-is t k ks;
-        open-due = nleb→lt (job f .due) (job (firstPick job t (k ∷ ks)) .due) (nor-both (leb (length (i ∷ is)) 1) (leb (job f .due) (job (firstPick job t (k ∷ ks)) .due)) h .1);
+        open-due = nleb→lt (job f .due) (job (firstPick job t (k ∷ ks)) .due)
+            (nor-both (leb (length (i ∷ is)) 1) (leb (job f .due) (job (firstPick job t (k ∷ ks)) .due)) h .1);
       }
 
   -- Where a run stops: nothing is left, or the desk is undecided.
@@ -118,7 +122,8 @@ module _ (job : ℕ → Job) where
   ran zero t [] l = unfold runFor in record { runs = halt empty; halts = tt; takes = tt }
   ran zero t (i ∷ is) l = let z : ⊥ = omega arith in absurd z
   ran (suc n) t [] l = unfold runFor in record { runs = halt empty; halts = tt; takes = tt }
-  ran (suc n) t (i ∷ is) l = step (decided job t (i ∷ is)) refl (ran n (finish (job (firstPick job t (i ∷ is))) t) (others job t (i ∷ is)) (omega (arith, length-others t i is)))
+  ran (suc n) t (i ∷ is) l = step (decided job t (i ∷ is)) refl
+      (ran n (finish (job (firstPick job t (i ∷ is))) t) (others job t (i ∷ is)) (omega (arith, length-others t i is)))
     where
       f : ℕ
       f = firstPick job t (i ∷ is)
@@ -129,7 +134,8 @@ module _ (job : ℕ → Job) where
       stop : decided job t (i ∷ is) ≡ false → Ran t (i ∷ is) []
       stop e = record { runs = halt (undecided (open-is t i is e .picks)); halts = e; takes = tt }
 
-      step : (d : Bool) → decided job t (i ∷ is) ≡ d → Ran (finish (job f) t) (others job t (i ∷ is)) (runFor job n (finish (job f) t) (others job t (i ∷ is))) →
+      step : (d : Bool) → decided job t (i ∷ is) ≡ d → Ran (finish (job f) t) (others job t (i ∷ is))
+          (runFor job n (finish (job f) t) (others job t (i ∷ is))) →
           Ran t (i ∷ is) (runFor job (suc n) t (i ∷ is))
       step true e r = rw (run-step job n t i is e) (more e (runFor job n (finish (job f) t) (others job t (i ∷ is))) r)
       step false e r = rw (run-stop job n t i is e) (stop e)
@@ -154,8 +160,10 @@ module _ (job : ℕ → Job) (y : ℤ) where
 
   -- Some rows in front of what is found from there on.
   found-joined : (t : ℕ) (left done : List ℕ) (o : Option (List ℕ)) → Takes done left →
-      ((θ : List Job) → For (down y) (up y) (jobs job (withoutAll done left)) (Rattle.theory.specs.Jobs.endOf t (jobs job done)) θ → For (down y) (up y) (jobs job left) t (jobs job done ++ θ)) →
-      (NoOrder (down y) (up y) (jobs job (withoutAll done left)) (Rattle.theory.specs.Jobs.endOf t (jobs job done)) → NoOrder (down y) (up y) (jobs job left) t) →
+      ((θ : List Job) → For (down y) (up y) (jobs job (withoutAll done left)) (Rattle.theory.specs.Jobs.endOf t (jobs job done)) θ → For
+      (down y) (up y) (jobs job left) t (jobs job done ++ θ)) →
+      (NoOrder (down y) (up y) (jobs job (withoutAll done left)) (Rattle.theory.specs.Jobs.endOf t (jobs job done)) → NoOrder (down y)
+      (up y) (jobs job left) t) →
       Found (endOf job t done) (withoutAll done left) o → Found t left (joined done o)
   unfolding joined
   found-joined t left done none k f g h = g (rw jobs-end h)
@@ -177,27 +185,37 @@ module _ (job : ℕ → Job) (y : ℤ) where
   unfolding block run withoutAll endOf
   block-is i t left m =
       let r = ran job (length (without i left)) (finish (job i) t) (without i left) (omega arith) in
-      record { runs = r .runs; halts = r .halts; takes = (m, r .takes); fewer = omega (arith, takes-length (run job (finish (job i) t) (without i left)) (without i left) (r .takes), length-without i left m) }
+      record {
+        runs = r .runs;
+        halts = r .halts;
+        takes = (m, r .takes);
+        fewer = omega
+            (arith, takes-length (run job (finish (job i) t) (without i left)) (without i left) (r .takes), length-without i left m);
+      }
 
   -- The three ways on, at an undecided desk.
   module _ (n t i : ℕ) (is : List ℕ) where
     pub blocks-one : keeps job y t (blockOne job t (i ∷ is)) ≡ true →
-        blocksFor job (suc n) y t (i ∷ is) ≡ joined (blockOne job t (i ∷ is)) (blocksFor job n y (endOf job t (blockOne job t (i ∷ is))) (withoutAll (blockOne job t (i ∷ is)) (i ∷ is)))
+        blocksFor job (suc n) y t (i ∷ is) ≡ joined (blockOne job t (i ∷ is))
+        (blocksFor job n y (endOf job t (blockOne job t (i ∷ is))) (withoutAll (blockOne job t (i ∷ is)) (i ∷ is)))
     unfolding blocksFor
     blocks-one h = rw (h, blocksFor)
 
     pub blocks-two : keeps job y t (blockOne job t (i ∷ is)) ≡ false → keeps job y t (blockTwo job t (i ∷ is)) ≡ true →
-        blocksFor job (suc n) y t (i ∷ is) ≡ joined (blockTwo job t (i ∷ is)) (blocksFor job n y (endOf job t (blockTwo job t (i ∷ is))) (withoutAll (blockTwo job t (i ∷ is)) (i ∷ is)))
+        blocksFor job (suc n) y t (i ∷ is) ≡ joined (blockTwo job t (i ∷ is))
+        (blocksFor job n y (endOf job t (blockTwo job t (i ∷ is))) (withoutAll (blockTwo job t (i ∷ is)) (i ∷ is)))
     unfolding blocksFor
     blocks-two h k = rw (h, k, blocksFor)
 
-    pub blocks-none : keeps job y t (blockOne job t (i ∷ is)) ≡ false → keeps job y t (blockTwo job t (i ∷ is)) ≡ false → blocksFor job (suc n) y t (i ∷ is) ≡ none
+    pub blocks-none : keeps job y t (blockOne job t (i ∷ is)) ≡ false → keeps job y t (blockTwo job t (i ∷ is)) ≡ false → blocksFor job
+        (suc n) y t (i ∷ is) ≡ none
     unfolding blocksFor
     blocks-none h k = rw (h, k, blocksFor)
 
   -- What the search is at an undecided desk, given what it is from there on.
   module _ (n t i : ℕ) (is : List ℕ) (e : decided job t (i ∷ is) ≡ false)
-      (below : (t′ : ℕ) (left : List ℕ) → length left < length (i ∷ is) → Halted job t′ left → Found t′ left (blocksFor job n y t′ left)) where
+      (below : (t′ : ℕ) (left : List ℕ) → length left < length (i ∷ is) → Halted job t′ left → Found t′ left
+      (blocksFor job n y t′ left)) where
     at-open : Open job t (i ∷ is)
     at-open = open-is job t i is e
 
@@ -212,7 +230,13 @@ module _ (job : ℕ → Job) (y : ℤ) where
         (jobs job (run job (finish (job (firstPick job t (i ∷ is))) t) (without (firstPick job t (i ∷ is)) (i ∷ is))))
         (jobs job (withoutAll (blockOne job t (i ∷ is)) (i ∷ is))) (job (secondPick job t (i ∷ is)))
     unfolding blockOne others
-    one-is = record { M = jobs job (others job t (i ∷ is)); L = jobs job (others job t (others job t (i ∷ is))); open-at = at-open .picks; run = first-block .runs }
+    one-is = record {
+      M = jobs job (others job t (i ∷ is));
+      L = jobs job (others job t (others job t (i ∷ is)));
+      open-at =
+          at-open .picks;
+      run = first-block .runs;
+    }
 
     two-is : BlockTwo (jobs job (i ∷ is)) t (job (secondPick job t (i ∷ is)))
         (jobs job (run job (finish (job (secondPick job t (i ∷ is))) t) (without (secondPick job t (i ∷ is)) (i ∷ is))))
@@ -231,25 +255,30 @@ module _ (job : ℕ → Job) (y : ℤ) where
         let rest : List ℕ = withoutAll one (i ∷ is) in
         let k = kept-is t one h in
         rw (blocks-one n t i is h) (
-        found-joined t (i ∷ is) one (blocksFor job n y (endOf job t one) rest) (first-block .takes) (λ θ f. for-one one-is k f) (λ f. no-one one-is k f)
+        found-joined t (i ∷ is) one (blocksFor job n y (endOf job t one) rest) (first-block .takes) (λ θ f. for-one one-is k f)
+        (λ f. no-one one-is k f)
         (below (endOf job t one) rest (first-block .fewer) (first-block .halts))
         )
 
-    found-two : keeps job y t (blockOne job t (i ∷ is)) ≡ false → keeps job y t (blockTwo job t (i ∷ is)) ≡ true → Found t (i ∷ is) (blocksFor job (suc n) y t (i ∷ is))
+    found-two : keeps job y t (blockOne job t (i ∷ is)) ≡ false → keeps job y t (blockTwo job t (i ∷ is)) ≡ true → Found t (i ∷ is)
+        (blocksFor job (suc n) y t (i ∷ is))
     unfolding blockOne blockTwo block
     found-two h k =
         let two : List ℕ = blockTwo job t (i ∷ is) in
         let rest : List ℕ = withoutAll two (i ∷ is) in
         let u = unkept-is t (blockOne job t (i ∷ is)) h in
         rw (blocks-two n t i is h k) (
-        found-joined t (i ∷ is) two (blocksFor job n y (endOf job t two) rest) (second-block .takes) (λ θ f. for-two one-is u two-is (kept-is t two k) f) (λ f. no-two one-is u two-is f)
+        found-joined t (i ∷ is) two (blocksFor job n y (endOf job t two) rest) (second-block .takes)
+        (λ θ f. for-two one-is u two-is (kept-is t two k) f) (λ f. no-two one-is u two-is f)
         (below (endOf job t two) rest (second-block .fewer) (second-block .halts))
         )
 
-    found-none : keeps job y t (blockOne job t (i ∷ is)) ≡ false → keeps job y t (blockTwo job t (i ∷ is)) ≡ false → Found t (i ∷ is) (blocksFor job (suc n) y t (i ∷ is))
+    found-none : keeps job y t (blockOne job t (i ∷ is)) ≡ false → keeps job y t (blockTwo job t (i ∷ is)) ≡ false → Found t (i ∷ is)
+        (blocksFor job (suc n) y t (i ∷ is))
     unfolding blockOne blockTwo block
     found-none h k =
-        rw (blocks-none n t i is h k) (no-block one-is (unkept-is t (blockOne job t (i ∷ is)) h) two-is (unkept-is t (blockTwo job t (i ∷ is)) k))
+        rw (blocks-none n t i is h k) (no-block one-is (unkept-is t (blockOne job t (i ∷ is)) h) two-is
+        (unkept-is t (blockTwo job t (i ∷ is)) k))
 
     found-at : Found t (i ∷ is) (blocksFor job (suc n) y t (i ∷ is))
     found-at = step (keeps job y t (blockOne job t (i ∷ is))) (keeps job y t (blockTwo job t (i ∷ is))) refl refl

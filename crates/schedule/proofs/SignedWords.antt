@@ -15,8 +15,10 @@ use Rattle.schedule.proofs.Signed.{sub-cases}
 
 -- A signed 32-bit number comes back from what it is raised to, and the other way round.
 pub lowered-raised : (z : ℤ) → mag z < 2147483648 → lowered (raised z) ≡ z
-lowered-raised (pos n) h = sub-cases (n + 2147483648) 2147483648 (λ z. z ≡ pos n) (λ k e. let x : ⊥ = omega arith in absurd x) (λ k e. ap pos (omega arith))
-lowered-raised (negsuc n) h = sub-cases (2147483647 - n) 2147483648 (λ z. z ≡ negsuc n) (λ k e. ap negsuc (omega arith)) (λ k e. let x : ⊥ = omega arith in absurd x)
+lowered-raised (pos n) h = sub-cases (n + 2147483648) 2147483648 (λ z. z ≡ pos n) (λ k e. let x : ⊥ = omega arith in absurd x)
+    (λ k e. ap pos (omega arith))
+lowered-raised (negsuc n) h = sub-cases (2147483647 - n) 2147483648 (λ z. z ≡ negsuc n) (λ k e. ap negsuc (omega arith))
+    (λ k e. let x : ⊥ = omega arith in absurd x)
 
 pub raised-lowered : (n : ℕ) → raised (lowered n) ≡ n
 raised-lowered n = sub-cases n 2147483648 (λ z. raised z ≡ n) (λ k e. omega arith) (λ k e. omega arith)

@@ -17,7 +17,8 @@ module _ {A : Type 0} (R : A → A → Type 0) (one-way : (a b : A) → R a b �
   other : (a b : A) → R a b → ¬ (b ≡ a)
   other a b r e = let s : R a a = subst (R a) e r in one-way a a s s
 
-  pub sorted-unique : (l m : List A) → Sorted R l → Sorted R m → ((a : A) → List·Memᴰ a l → List·Memᴰ a m) → ((a : A) → List·Memᴰ a m → List·Memᴰ a l) → l ≡ m
+  pub sorted-unique : (l m : List A) → Sorted R l → Sorted R m → ((a : A) → List·Memᴰ a l → List·Memᴰ a m) →
+      ((a : A) → List·Memᴰ a m → List·Memᴰ a l) → l ≡ m
   sorted-unique [] [] h k f g = refl
   sorted-unique [] (b ∷ ys) h k f g = absurd (List·Memᴰ·not-nil (g b (List·Memᴰ·head refl)))
   sorted-unique (a ∷ xs) [] h k f g = absurd (List·Memᴰ·not-nil (f a (List·Memᴰ·head refl)))

@@ -26,7 +26,8 @@ pub digits-end : (w : List ℕ) (i : ℕ) → i ≡ length w → allDigits (drop
 unfolding allDigits
 digits-end w i e = ap allDigits (ended w i e)
 
-pub decimal-step : (v : ℕ) (w : List ℕ) (i : ℕ) → i < length w → decimal v (drop i w) ≡ decimal (10 * v + (getD w i 0 - 48)) (drop (i + 1) w)
+pub decimal-step : (v : ℕ) (w : List ℕ) (i : ℕ) → i < length w → decimal v (drop i w) ≡ decimal (10 * v + (getD w i 0 - 48))
+    (drop (i + 1) w)
 unfolding decimal
 decimal-step v w i h = ap (decimal v) (split w i h)
 

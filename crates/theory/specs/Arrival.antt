@@ -24,9 +24,11 @@ unfolding ready
 ready-release g j t h = omega arith
 
 -- The first job by arrival is released and due no later than every job: least ready from any minute on, and no job's cap is below its own.
-front-first : {f : Job} {π N′ N : List Job} → Uncrossed N → ByArrival (f ∷ π) → Ins f N′ N → Order π N′ → (j : Job) → In j N → (f .release ≤ j .release) × (f .due ≤ j .due)
+front-first : {f : Job} {π N′ N : List Job} → Uncrossed N → ByArrival (f ∷ π) → Ins f N′ N → Order π N′ → (j : Job) → In j N →
+    (f .release ≤ j .release) × (f .due ≤ j .due)
 front-first {f} {π} u a i o j m =
-    on-cons (λ j. (f .release ≤ j .release) × (f .due ≤ j .due)) f π (omega arith) (λ k n. rest k n (decLt (f .release) (k .release))) j (in-order (next i o) m)
+    on-cons (λ j. (f .release ≤ j .release) × (f .due ≤ j .due)) f π (omega arith) (λ k n. rest k n (decLt (f .release) (k .release))) j
+    (in-order (next i o) m)
   where
     rest : (k : Job) → In k π → Dec (f .release < k .release) → (f .release ≤ k .release) × (f .due ≤ k .due)
     rest k n (yes l) = (omega arith, u f k (ins-in i) (ins-sub i (order-in o n)) l)
@@ -42,5 +44,6 @@ arrival-best {bias} {θ} {t} u a (next {j} i o) q =
     let least : Least t j θ = λ k m. ready-release j k t (f k (order-in q m) .0) in
     record {
       ends = le-trans (b .ends) (front-end t (r .1) least);
-      keeps = λ y w. let v = front-caps bias (dueBy y) t (r .1) least (λ k m. omega (arith, f k (order-in q m) .1)) w in (v .0, b .keeps y (v .1));
+      keeps = λ y w. let v = front-caps bias (dueBy y) t (r .1) least (λ k m. omega (arith, f k (order-in q m) .1)) w in
+          (v .0, b .keeps y (v .1));
     }

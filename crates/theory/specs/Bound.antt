@@ -46,25 +46,39 @@ run-moved (go {t} {f} d r) o =
     (v .0, v .1, take (u .1) (λ j m. p .least j (order-in o m)) (v .2))
 
 -- Runs: for each order there is one no worse that starts with the run.
-pub run-first : {bias : ℕ} {N : List Job} {t : ℕ} {ω N′ π : List Job} → Agree N → Run N t ω N′ → Order π N → (κ : List Job) × Order κ N′ × Better bias t π (ω ++ κ)
+pub run-first : {bias : ℕ} {N : List Job} {t : ℕ} {ω N′ π : List Job} → Agree N → Run N t ω N′ → Order π N → (κ : List Job) × Order κ N′ ×
+    Better bias t π (ω ++ κ)
 run-first {π} a (halt s) o = (π, o, record { ends = le-refl _; keeps = λ y w. w })
 run-first a (go d r) o =
     let u = decided-first a d o in
-    let v = run-first (agree-ins (pick-of d .taken) a) r (u .1) in
-    (v .0, v .1, record { ends = le-trans (v .2 .ends) (u .2 .ends); keeps = λ y w. let x = u .2 .keeps y w in (x .0, v .2 .keeps y (x .1)) })
+    let v = run-first (agree-ins (pick-of d .taken) a) r (u .1) in (
+      v .0,
+      v .1,
+      record {
+        ends = le-trans (v .2 .ends) (u .2 .ends);
+        keeps = λ y w. let x = u .2 .keeps y w in
+            (x .0, v .2 .keeps y (x .1));
+      },
+    )
 
 -- What is left when a run stops cannot be done by then, so by agreement it is due no sooner.
 stopped-late : {N : List Job} {T : ℕ} → Agree N → Stopped N T → (k : Job) → In k N → T < k .release + k .length
 unfolding ready
 stopped-late a empty = on-nil (λ k. _)
 stopped-late {N} {T} a (undecided {f} {M} {s} u) = ins-on (λ k. T < k .release + k .length) i
-    (omega (arith, a s f (ins-sub i (ins-in (u .two .taken))) (ins-in i) (u .open-due), u .one .ties s (ins-sub i (ins-in (u .two .taken))) (u .open-due)))
+    (omega (
+      arith,
+      a s f (ins-sub i (ins-in (u .two .taken))) (ins-in i) (u .open-due),
+      u .one .ties s
+          (ins-sub i (ins-in (u .two .taken))) (u .open-due),
+    ))
     (λ k m. omega (arith, u .two .least k m, u .one .ties s (ins-sub i (ins-in (u .two .taken))) (u .open-due)))
   where
     i : Ins f M N
     i = u .one .taken
 
-pub block-dues : (N : List Job) (t : ℕ) (ω N′ : List Job) → Agree N → ((b : Job) → In b ω → In b N) → ((k : Job) → In k N′ → In k N) → Stopped N′ (endOf t ω)
+pub block-dues : (N : List Job) (t : ℕ) (ω N′ : List Job) → Agree N → ((b : Job) → In b ω → In b N) → ((k : Job) → In k N′ → In k N) →
+    Stopped N′ (endOf t ω)
     → (b : Job) → In b ω → (k : Job) → In k N′ → b .due ≤ k .due
 block-dues N t ω N′ a hb hk s b m k n = step (decLt (k .due) (b .due))
   where
@@ -99,9 +113,11 @@ pub moved-fits : {t : ℕ} {π ω κ : List Job} → Moved t π ω κ → ((b : 
 moved-fits {t} {π} {ω} {κ} m h b y w v =
     let cap : Job → ℕ = λ j. max (j .due + y) (maxDue ω + y) in
     let x = moved-caps b cap m (λ g n j k. omega (arith, maxDue-in n)) (within-caps b (dueBy y) cap π t (λ j n. omega arith) v) in
-    within-append b (dueBy y) ω κ t w (within-caps b cap (dueBy y) κ (endOf t ω) (λ k n. omega (arith, maxDue-le ω (k .due) (λ x q. h x q k n))) (within-right b cap ω κ t x))
+    within-append b (dueBy y) ω κ t w (within-caps b cap (dueBy y) κ (endOf t ω)
+    (λ k n. omega (arith, maxDue-le ω (k .due) (λ x q. h x q k n))) (within-right b cap ω κ t x))
 
-pub one-fits : {bias : ℕ} {N : List Job} {t : ℕ} {f : Job} {M ω N′ π : List Job} (y : ℕ) → Agree N → Pick N t f M → Run M (finish f t) ω N′ → Order π N
+pub one-fits : {bias : ℕ} {N : List Job} {t : ℕ} {f : Job} {M ω N′ π : List Job} (y : ℕ) → Agree N → Pick N t f M → Run M
+    (finish f t) ω N′ → Order π N
     → Keeps bias y t (f ∷ ω) → Keeps bias y t π → Lead bias y t π (f ∷ ω) N′
 one-fits {bias} {N} {t} {f} {M} {ω} {N′} {π} y a p r o w v =
     let u = take-right o (p .taken) in
@@ -117,19 +133,22 @@ one-fits {bias} {N} {t} {f} {M} {ω} {N′} {π} y a p r o w v =
     }
 
 -- The order for a bound: what leads, by which way on.
-pub starts-lead : {bias : ℕ} {N : List Job} {t : ℕ} {g : Job} {M ω N′ π : List Job} (y : ℕ) → Agree N → Ins g M N → Run M (finish g t) ω N′ → Starts bias g t N π
+pub starts-lead : {bias : ℕ} {N : List Job} {t : ℕ} {g : Job} {M ω N′ π : List Job} (y : ℕ) → Agree N → Ins g M N → Run M
+    (finish g t) ω N′ → Starts bias g t N π
     → Keeps bias y t π → Lead bias y t π (g ∷ ω) N′
 starts-lead y a i r s w =
     let x = s .2 .keeps y w in
     let u = run-first (agree-ins i a) r (order-tail (s .1) i) in
     record { κ = u .0; orders = u .1; ends = le-trans (u .2 .ends) (s .2 .ends); keeps = (x .0, u .2 .keeps y (x .1)) }
 
-pub two-leads : {bias : ℕ} {N : List Job} {t : ℕ} {f : Job} {ω₁ N₁ : List Job} {s : Job} {ω₂ N₂ π : List Job} (y : ℕ) → Agree N → BlockOne N t f ω₁ N₁ s
+pub two-leads : {bias : ℕ} {N : List Job} {t : ℕ} {f : Job} {ω₁ N₁ : List Job} {s : Job} {ω₂ N₂ π : List Job} (y : ℕ) → Agree N →
+    BlockOne N t f ω₁ N₁ s
     → ¬ Keeps bias y t (f ∷ ω₁) → BlockTwo N t s ω₂ N₂ → Order π N → Keeps bias y t π → Lead bias y t π (s ∷ ω₂) N₂
 two-leads {bias} {N} {t} {f} {ω₁} {N₁} {s} {ω₂} {N₂} {π} y a b not c o w = step (one-or-two a (b .open-at .one) (b .open-at .two) o)
   where
     step : Starts bias f t N π ⊎ Starts bias s t N π → Lead bias y t π (s ∷ ω₂) N₂
-    step (inl x) = let l = starts-lead y a (b .open-at .one .taken) (b .run) x w in absurd (not (within-left bias (dueBy y) (f ∷ ω₁) (l .κ) t (l .keeps)))
+    step (inl x) = let l = starts-lead y a (b .open-at .one .taken) (b .run) x w in absurd
+        (not (within-left bias (dueBy y) (f ∷ ω₁) (l .κ) t (l .keeps)))
     step (inr x) = starts-lead y a (c .without) (c .run) x w
 
 pub for-order : {bias : ℕ} {y : ℕ} {N : List Job} {t : ℕ} {θ : List Job} → For bias y N t θ → Order θ N
@@ -147,15 +166,25 @@ for-keeps {bias} {y} (for-two {t} {s} {ω₂} {θ} b n c k r) = within-append bi
 block-in : {N : List Job} {t : ℕ} {g : Job} {M ω N′ : List Job} → Ins g M N → Run M t ω N′ → Agree N → Agree N′
 block-in {N} {N′} i r a = agree-sub N N′ (λ k m. ins-sub i (run-in r m)) a
 
-lead-best : {bias : ℕ} {y t : ℕ} {π ω N′ : List Job} (θ : List Job) → Lead bias y t π ω N′ → ((κ : List Job) → Order κ N′ → Keeps bias y (endOf t ω) κ → endOf (endOf t ω) θ ≤ endOf (endOf t ω) κ)
+lead-best : {bias : ℕ} {y t : ℕ} {π ω N′ : List Job} (θ : List Job) → Lead bias y t π ω N′ →
+    ((κ : List Job) → Order κ N′ → Keeps bias y (endOf t ω) κ → endOf (endOf t ω) θ ≤ endOf (endOf t ω) κ)
     → endOf t (ω ++ θ) ≤ endOf t π
 lead-best {bias} {y} {t} {π} {ω} θ l h =
-    omega (arith, end-append ω θ t, end-append ω (l .κ) t, l .ends, h (l .κ) (l .orders) (within-right bias (dueBy y) ω (l .κ) t (l .keeps)))
+    omega (
+      arith,
+      end-append ω θ t,
+      end-append ω (l .κ) t,
+      l .ends,
+      h (l .κ) (l .orders)
+          (within-right bias (dueBy y) ω (l .κ) t (l .keeps)),
+    )
 
-run-lead : {bias : ℕ} {N : List Job} {t : ℕ} {f : Job} {M π : List Job} (y : ℕ) → Agree N → Decided N t f M → Order π N → Keeps bias y t π → Lead bias y t π (f ∷ []) M
+run-lead : {bias : ℕ} {N : List Job} {t : ℕ} {f : Job} {M π : List Job} (y : ℕ) → Agree N → Decided N t f M → Order π N →
+    Keeps bias y t π → Lead bias y t π (f ∷ []) M
 run-lead y a d o w = let u = decided-first a d o in record { κ = u .0; orders = u .1; ends = u .2 .ends; keeps = u .2 .keeps y w }
 
-pub for-best : {bias : ℕ} {y : ℕ} {N : List Job} {t : ℕ} {θ π : List Job} → Agree N → For bias y N t θ → Order π N → Keeps bias y t π → endOf t θ ≤ endOf t π
+pub for-best : {bias : ℕ} {y : ℕ} {N : List Job} {t : ℕ} {θ π : List Job} → Agree N → For bias y N t θ → Order π N → Keeps bias y t π →
+    endOf t θ ≤ endOf t π
 for-best a for-none done w = le-refl _
 for-best {y} a (for-run {θ} d l r) o w = lead-best θ (run-lead y a d o w) (λ κ p k. for-best (agree-ins (pick-of d .taken) a) r p k)
 for-best {y} a (for-one {θ} b k r) o w =
@@ -163,7 +192,8 @@ for-best {y} a (for-one {θ} b k r) o w =
 for-best {y} a (for-two {θ} b n c k r) o w =
     lead-best θ (two-leads y a b n c o w) (λ κ p v. for-best (block-in (c .without) (c .run) a) r p v)
 
-lead-none : {bias : ℕ} {y t : ℕ} {π ω N′ : List Job} → Lead bias y t π ω N′ → ((κ : List Job) → Order κ N′ → Keeps bias y (endOf t ω) κ → ⊥) → ⊥
+lead-none : {bias : ℕ} {y t : ℕ} {π ω N′ : List Job} → Lead bias y t π ω N′ →
+    ((κ : List Job) → Order κ N′ → Keeps bias y (endOf t ω) κ → ⊥) → ⊥
 lead-none {bias} {y} {t} {π} {ω} l h = h (l .κ) (l .orders) (within-right bias (dueBy y) ω (l .κ) t (l .keeps))
 
 pub no-keeps : {bias : ℕ} {y : ℕ} {N : List Job} {t : ℕ} {π : List Job} → Agree N → NoOrder bias y N t → Order π N → Keeps bias y t π → ⊥

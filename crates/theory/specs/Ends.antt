@@ -73,7 +73,12 @@ counted-waits j k (inr h) = step (decLe (j .release) (k .release))
   where
     step : (d : Dec (j .release ≤ k .release)) → only-if d (k .length) (only-if (decLt (j .due) (k .due)) (k .length) 0) ≡ k .length
     step (yes l) = if-yes (yes l) _ _ l
-    step (no l) = omega (arith, if-no (no l) (k .length) (only-if (decLt (j .due) (k .due)) (k .length) 0) l, if-yes (decLt (j .due) (k .due)) (k .length) 0 h)
+    step (no l) = omega (
+      arith,
+      if-no (no l) (k .length) (only-if (decLt (j .due) (k .due)) (k .length) 0) l,
+      if-yes
+          (decLt (j .due) (k .due)) (k .length) 0 h,
+    )
 
 counted-not : (j k : Job) → k .release < j .release → k .due ≤ j .due → counted j k ≡ 0
 unfolding counted
@@ -93,7 +98,8 @@ pick-waits : {N : List Job} {t : ℕ} {f : Job} {M : List Job} → Pick N t f M 
 unfolding ready
 pick-waits p k m l = inl (omega (arith, p .least k m))
 
-second-waits : {N : List Job} {t : ℕ} {f : Job} {M : List Job} {s : Job} {L : List Job} → Undecided N t f M s L → (k : Job) → In k N → t < s .release → Waits s k
+second-waits : {N : List Job} {t : ℕ} {f : Job} {M : List Job} {s : Job} {L : List Job} → Undecided N t f M s L → (k : Job) → In k N →
+    t < s .release → Waits s k
 second-waits {t} {s} u = ins-on (λ k. t < s .release → Waits s k) (u .one .taken) (λ l. inr (u .open-due)) (pick-waits (u .two))
 
 run-steps : {N : List Job} {t : ℕ} {ω N′ θ : List Job} → Run N t ω N′ → Order θ N′ → Steps (endOf t ω) θ → Steps t (ω ++ θ)
@@ -103,10 +109,16 @@ run-steps (go d r) o s = (λ k m. pick-waits (pick-of d) k (ins-sub (pick-of d .
 for-steps : {bias : ℕ} {y : ℕ} {N : List Job} {t : ℕ} {θ : List Job} → For bias y N t θ → Steps t θ
 for-steps for-none = tt
 for-steps (for-run d l r) = (λ k m. pick-waits (pick-of d) k (ins-sub (pick-of d .taken) (order-in (for-order r) m)), for-steps r)
-for-steps (for-one b h r) =
-    (λ k m. pick-waits (b .open-at .one) k (ins-sub (b .open-at .one .taken) (order-in (run-order (b .run) (for-order r)) m)), run-steps (b .run) (for-order r) (for-steps r))
-for-steps (for-two b n c h r) =
-    (λ k m. second-waits (b .open-at) k (ins-sub (c .without) (order-in (run-order (c .run) (for-order r)) m)), run-steps (c .run) (for-order r) (for-steps r))
+for-steps (for-one b h r) = (
+  λ k m. pick-waits (b .open-at .one) k (ins-sub (b .open-at .one .taken) (order-in (run-order (b .run) (for-order r)) m)),
+  run-steps
+      (b .run) (for-order r) (for-steps r),
+)
+for-steps (for-two b n c h r) = (
+  λ k m. second-waits (b .open-at) k (ins-sub (c .without) (order-in (run-order (c .run) (for-order r)) m)),
+  run-steps (c .run)
+      (for-order r) (for-steps r),
+)
 
 -- The last stretch without idle time.
 data Stretch (t : ℕ) : List Job → Type 0 where
@@ -115,7 +127,8 @@ data Stretch (t : ℕ) : List Job → Type 0 where
   from : (α : List Job) (j : Job) (β : List Job) → endOf t α < j .release → endOf t (α ++ j ∷ β) ≡ j .release + (j .length + sum long β)
       → ((k : Job) → In k β → Waits j k) → Stretch t (α ++ j ∷ β)
 
-stretch-cons : {t : ℕ} {θ : List Job} (j : Job) → Dec (j .release ≤ t) → ((k : Job) → In k θ → t < j .release → Waits j k) → Stretch (finish j t) θ → Stretch t (j ∷ θ)
+stretch-cons : {t : ℕ} {θ : List Job} (j : Job) → Dec (j .release ≤ t) → ((k : Job) → In k θ → t < j .release → Waits j k) → Stretch
+    (finish j t) θ → Stretch t (j ∷ θ)
 unfolding finish
 stretch-cons j (yes h) w nothing = whole j [] h (omega arith)
 stretch-cons j (no h) w nothing = from [] j [] (omega arith) (omega arith) (λ k m. w k m (omega arith))
@@ -133,8 +146,15 @@ EndsAt N t e = (j : Job) × In j N × (e ≡ endAt N t j)
 stretch-end : {N : List Job} {t : ℕ} {θ : List Job} → Agree N → Order θ N → 0 < length N → Stretch t θ → EndsAt N t (endOf t θ)
 unfolding endAt
 stretch-end a done h nothing = absurd (omega arith)
-stretch-end {N} {t} a o h (whole j θ l e) =
-    (j, order-in o first, omega (arith, if-yes (decLe (j .release) t) (t + sum long N) (j .release + sum (counted j) N) l, sum-order long o))
+stretch-end {N} {t} a o h (whole j θ l e) = (
+  j,
+  order-in o first,
+  omega (
+    arith,
+    if-yes (decLe (j .release) t) (t + sum long N) (j .release + sum (counted j) N) l,
+    sum-order long o,
+  ),
+)
 stretch-end {N} {t} a o h (from α j β l e v) = (
   j,
   order-in o (in-right α first),

@@ -7,8 +7,10 @@ use native.Mathlib.Nat.{le-refl, le-trans}
 use native.Mathlib.Decide.{decLt}
 use native.Mathlib.Omega.{arith}
 use Rattle.theory.specs.Jobs.{Job, ready, finish, endOf, Within, dueBy, Keeps, In, first, later, Ins, here, there, Order, done, next}
-use Rattle.theory.specs.Order.{ins-in, ins-sub, order-in, take-left, take-right, on-nil, on-cons, ins-middle, in-order, in-left, in-right}
-use Rattle.theory.specs.FrontMove.{finish-bound, finish-mono, finish-swap, end-mono, within-mono, within-append, within-right, within-caps, within-end, within-in}
+use Rattle.theory.specs.Order.{ins-in, ins-sub, order-in, take-left, take-right, on-nil, on-cons, ins-middle, in-order, in-left}
+use Rattle.theory.specs.Order.{in-right}
+use Rattle.theory.specs.FrontMove.{finish-bound, finish-mono, finish-swap, end-mono, within-mono, within-append, within-right}
+use Rattle.theory.specs.FrontMove.{within-caps, within-end, within-in}
 use Rattle.theory.specs.FrontMove.{Least, least-later, Moved, none, take, moved-end, moved-caps, moved-order, moved-from}
 use Rattle.theory.specs.Picks.{Agree, Pick, Decided, alone, sooner}
 
@@ -25,7 +27,8 @@ dominates {N} {t} {s} {M} {j} a p m = step (decLt (j .due) (s .due))
     step (yes h) = omega (arith, a j s m (ins-in (p .taken)) h, p .ties j m h)
 
 -- No order of what is dominated is late if s still ends in time after it.
-pub dominated : (bias : ℕ) (N : List Job) {t : ℕ} {s : Job} {M : List Job} (y t₀ : ℕ) (μ : List Job) → Agree N → Pick N t s M → ((j : Job) → In j μ → In j N)
+pub dominated : (bias : ℕ) (N : List Job) {t : ℕ} {s : Job} {M : List Job} (y t₀ : ℕ) (μ : List Job) → Agree N → Pick N t s M →
+    ((j : Job) → In j μ → In j N)
     → endOf t₀ μ + s .length + bias ≤ s .due + y → Keeps bias y t₀ μ
 dominated bias N y t₀ μ a p sub h = within-end bias (dueBy y) μ t₀ (λ j m. omega (arith, dominates a p (sub j m)))
 
@@ -89,7 +92,8 @@ part d T (x ∷ ρ) h = step (decLt (x .due) d) (λ T′ l. part d T′ ρ (λ j
 decided-alone : {bias : ℕ} {f : Job} {ρ π : List Job} {t : ℕ} → Order ρ [] → Ins f ρ π → Better bias t π (f ∷ ρ)
 decided-alone done here = record { ends = le-refl _; keeps = λ y w. w }
 
-module _ {N : List Job} {t : ℕ} {f : Job} {M : List Job} {s : Job} {L : List Job} (a : Agree N) (p : Pick N t f M) (q : Pick M t s L) (le : f .due ≤ s .due) where
+module _ {N : List Job} {t : ℕ} {f : Job} {M : List Job} {s : Job} {L : List Job} (a : Agree N) (p : Pick N t f M) (q : Pick M t s L)
+    (le : f .due ≤ s .due) where
   -- A job due before f is released by the time f ends.
   soon : (j : Job) → In j M → j .due < f .due → j .release ≤ finish f t
   soon j m l = omega (arith, a j f (ins-sub (p .taken) m) (ins-in (p .taken)) l, finish-bound f t)
@@ -110,23 +114,28 @@ module _ {N : List Job} {t : ℕ} {f : Job} {M : List Job} {s : Job} {L : List J
       kept y w =
           let cap : Job → ℕ = λ j. max (j .due + y) (f .due + y) in
           let v = moved-caps bias cap mv (λ g m j n. omega (arith, low g m)) (within-caps bias (dueBy y) cap π t (λ j m. omega arith) w) in
-          let k = within-caps bias cap (dueBy y) (c .κ) (endOf t (f ∷ c .J)) (λ j m. omega (arith, c .large j m)) (within-right bias cap (f ∷ c .J) (c .κ) t v) in
+          let k = within-caps bias cap (dueBy y) (c .κ) (endOf t (f ∷ c .J)) (λ j m. omega (arith, c .large j m))
+          (within-right bias cap (f ∷ c .J) (c .κ) t v) in
           let e = within-in bias (dueBy y) (endOf t (f ∷ c .J)) (c .held s (in-order r (ins-in (q .taken))) le) k in (
             omega (arith, v .0),
             within-append bias (dueBy y) (c .J) (c .κ) (finish f t)
-                (dominated bias M y (finish f t) (c .J) (agree-sub N M (λ j m. ins-sub (p .taken) m) a) q (λ j m. order-in r (moved-from (c .moved) m)) e) k,
+                (dominated bias M y (finish f t) (c .J) (agree-sub N M (λ j m. ins-sub (p .taken) m) a) q
+                (λ j m. order-in r (moved-from (c .moved) m)) e) k,
           )
 
-pub decided-first : {bias : ℕ} {N : List Job} {t : ℕ} {f : Job} {M π : List Job} → Agree N → Decided N t f M → Order π N → (ρ : List Job) × Order ρ M × Better bias t π (f ∷ ρ)
+pub decided-first : {bias : ℕ} {N : List Job} {t : ℕ} {f : Job} {M π : List Job} → Agree N → Decided N t f M → Order π N →
+    (ρ : List Job) × Order ρ M × Better bias t π (f ∷ ρ)
 decided-first a (alone p) o = let r = take-right o (p .taken) in (r .0, r .2, decided-alone (r .2) (r .1))
 decided-first a (sooner p q le) o = let r = take-right o (p .taken) in decided-sooner a p q le o (r .1) (r .2)
 
 -- First or second first: h stands after g, g is least ready of the jobs before it, and h dominates these.
 pub move-end : (g : Job) (t : ℕ) (μ ν : List Job) → Least t g μ → endOf t (g ∷ (μ ++ ν)) ≤ endOf t (μ ++ g ∷ ν)
 move-end g t [] ν h = le-refl _
-move-end g t (x ∷ μ) ν h = le-trans (end-mono (μ ++ ν) (finish-swap g x t (h x first))) (move-end g (finish x t) μ ν (least-later g x t μ h))
+move-end g t (x ∷ μ) ν h = le-trans (end-mono (μ ++ ν) (finish-swap g x t (h x first)))
+    (move-end g (finish x t) μ ν (least-later g x t μ h))
 
-pub move-caps : (b : ℕ) (cap : Job → ℕ) (g h : Job) (t : ℕ) (μ ν : List Job) → Least t g μ → In h ν → ((j : Job) → In j μ → cap h ≤ cap j + h .length)
+pub move-caps : (b : ℕ) (cap : Job → ℕ) (g h : Job) (t : ℕ) (μ ν : List Job) → Least t g μ → In h ν →
+    ((j : Job) → In j μ → cap h ≤ cap j + h .length)
     → Within b cap t (μ ++ g ∷ ν) → Within b cap t (g ∷ (μ ++ ν))
 move-caps b cap g h t [] ν l m d w = w
 move-caps b cap g h t (x ∷ μ) ν l m d w =
@@ -157,7 +166,11 @@ module _ {N : List Job} {t : ℕ} {f : Job} {M : List Job} {s : Job} {L : List J
   starts {bias} (f-first μ ν m) o r = inl (
     μ ++ ν,
     next (p .taken) r,
-    record { ends = move-end f t μ ν lead; keeps = λ y w. move-caps bias (dueBy y) f s t μ ν lead m (λ j n. omega (arith, dominates b q (order-in r (in-left ν n)))) w },
+    record {
+      ends = move-end f t μ ν lead;
+      keeps = λ y w. move-caps bias (dueBy y) f s t μ ν lead m
+          (λ j n. omega (arith, dominates b q (order-in r (in-left ν n)))) w;
+    },
   )
     where
       b : Agree M
@@ -168,7 +181,11 @@ module _ {N : List Job} {t : ℕ} {f : Job} {M : List Job} {s : Job} {L : List J
   starts {bias} (s-first {ρ} μ ν m h) o r = inr (
     μ ++ ν,
     next (k .1) (k .2),
-    record { ends = move-end s t μ ν lead; keeps = λ y w. move-caps bias (dueBy y) s f t μ ν lead m (λ j n. omega (arith, dominates a p (order-in o (in-left (s ∷ ν) n)))) w },
+    record {
+      ends = move-end s t μ ν lead;
+      keeps = λ y w. move-caps bias (dueBy y) s f t μ ν lead m
+          (λ j n. omega (arith, dominates a p (order-in o (in-left (s ∷ ν) n)))) w;
+    },
   )
     where
       k : (K : List Job) × Ins s K N × Order (μ ++ ν) K

@@ -56,7 +56,8 @@ pub within-mono : (b : ℕ) (cap : Job → ℕ) (π : List Job) {t t′ : ℕ} �
 within-mono b cap [] h w = w
 within-mono b cap (j ∷ π) h w = (omega (arith, finish-mono j h, w .0), within-mono b cap π (finish-mono j h) (w .1))
 
-pub within-append : (b : ℕ) (cap : Job → ℕ) (π ρ : List Job) (t : ℕ) → Within b cap t π → Within b cap (endOf t π) ρ → Within b cap t (π ++ ρ)
+pub within-append : (b : ℕ) (cap : Job → ℕ) (π ρ : List Job) (t : ℕ) → Within b cap t π → Within b cap (endOf t π) ρ → Within b cap t
+    (π ++ ρ)
 within-append b cap [] ρ t v w = w
 within-append b cap (j ∷ π) ρ t v w = (v .0, within-append b cap π ρ (finish j t) (v .1) w)
 
@@ -69,7 +70,8 @@ within-right b cap [] ρ t w = w
 within-right b cap (j ∷ π) ρ t w = within-right b cap π ρ (finish j t) (w .1)
 
 -- Looser caps, and caps that the end itself meets.
-pub within-caps : (b : ℕ) (cap cap′ : Job → ℕ) (π : List Job) (t : ℕ) → ((j : Job) → In j π → cap j ≤ cap′ j) → Within b cap t π → Within b cap′ t π
+pub within-caps : (b : ℕ) (cap cap′ : Job → ℕ) (π : List Job) (t : ℕ) → ((j : Job) → In j π → cap j ≤ cap′ j) → Within b cap t π →
+    Within b cap′ t π
 within-caps b cap cap′ [] t h w = tt
 within-caps b cap cap′ (j ∷ π) t h w = (le-trans (w .0) (h j first), within-caps b cap cap′ π (finish j t) (λ k m. h k (later m)) (w .1))
 
@@ -114,7 +116,8 @@ pub moved-end : {t : ℕ} {π ω κ : List Job} → Moved t π ω κ → endOf t
 moved-end none = le-refl _
 moved-end (take {t} i h m) = le-trans (moved-end m) (front-end t i h)
 
-pub moved-caps : (b : ℕ) (cap : Job → ℕ) {t : ℕ} {π ω κ : List Job} → Moved t π ω κ → ((g : Job) → In g ω → (j : Job) → In j π → cap g ≤ cap j)
+pub moved-caps : (b : ℕ) (cap : Job → ℕ) {t : ℕ} {π ω κ : List Job} → Moved t π ω κ →
+    ((g : Job) → In g ω → (j : Job) → In j π → cap g ≤ cap j)
     → Within b cap t π → Within b cap t (ω ++ κ)
 moved-caps b cap none c w = w
 moved-caps b cap (take {t} {g} i h m) c w =

@@ -16,7 +16,8 @@ pub record Pick (N : List Job) (t : ℕ) (f : Job) (M : List Job) : Type 0 where
 
 pub data Decided : List Job → ℕ → Job → List Job → Type 0 where
   alone : {N : List Job} {t : ℕ} {f : Job} → Pick N t f [] → Decided N t f []
-  sooner : {N : List Job} {t : ℕ} {f : Job} {M : List Job} {s : Job} {L : List Job} → Pick N t f M → Pick M t s L → f .due ≤ s .due → Decided N t f M
+  sooner : {N : List Job} {t : ℕ} {f : Job} {M : List Job} {s : Job} {L : List Job} → Pick N t f M → Pick M t s L → f .due ≤ s .due →
+      Decided N t f M
 
 pub record Undecided (N : List Job) (t : ℕ) (f : Job) (M : List Job) (s : Job) (L : List Job) : Type 0 where
   pub one : Pick N t f M
@@ -47,11 +48,13 @@ pub record BlockTwo (N : List Job) (t : ℕ) (s : Job) (ω N′ : List Job) : Ty
 -- For bias y N t θ: θ is the order for the bound y less the bias.
 pub data For (bias : ℕ) (y : ℕ) : List Job → ℕ → List Job → Type 0 where
   for-none : {t : ℕ} → For bias y [] t []
-  for-run : {N : List Job} {t : ℕ} {f : Job} {M θ : List Job} → Decided N t f M → Keeps bias y t (f ∷ []) → For bias y M (finish f t) θ → For bias y N t (f ∷ θ)
+  for-run : {N : List Job} {t : ℕ} {f : Job} {M θ : List Job} → Decided N t f M → Keeps bias y t (f ∷ []) → For bias y M (finish f t) θ →
+      For bias y N t (f ∷ θ)
   for-one : {N : List Job} {t : ℕ} {f : Job} {ω₁ N₁ : List Job} {s : Job} {θ : List Job} → BlockOne N t f ω₁ N₁ s
       → Keeps bias y t (f ∷ ω₁) → For bias y N₁ (endOf t (f ∷ ω₁)) θ → For bias y N t (f ∷ (ω₁ ++ θ))
   for-two : {N : List Job} {t : ℕ} {f : Job} {ω₁ N₁ : List Job} {s : Job} {ω₂ N₂ θ : List Job} → BlockOne N t f ω₁ N₁ s
-      → ¬ Keeps bias y t (f ∷ ω₁) → BlockTwo N t s ω₂ N₂ → Keeps bias y t (s ∷ ω₂) → For bias y N₂ (endOf t (s ∷ ω₂)) θ → For bias y N t (s ∷ (ω₂ ++ θ))
+      → ¬ Keeps bias y t (f ∷ ω₁) → BlockTwo N t s ω₂ N₂ → Keeps bias y t (s ∷ ω₂) → For bias y N₂ (endOf t (s ∷ ω₂)) θ → For bias y N t
+      (s ∷ (ω₂ ++ θ))
 
 -- NoOrder bias y N t: the search for an order for the bound y ends without one.
 pub data NoOrder (bias : ℕ) (y : ℕ) : List Job → ℕ → Type 0 where

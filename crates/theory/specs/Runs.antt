@@ -23,11 +23,13 @@ decWithin b cap t (j ∷ π) = step (decLe (finish j t + b) (cap j)) (decWithin 
     step (no a) c = no (λ w. a (w .0))
 
 -- A run in front of an order for a bound, or of a search that ends without one.
-pub run-for : {bias : ℕ} {y : ℕ} {N : List Job} {t : ℕ} {ω N′ θ : List Job} → Run N t ω N′ → Keeps bias y t ω → For bias y N′ (endOf t ω) θ → For bias y N t (ω ++ θ)
+pub run-for : {bias : ℕ} {y : ℕ} {N : List Job} {t : ℕ} {ω N′ θ : List Job} → Run N t ω N′ → Keeps bias y t ω → For bias y N′
+    (endOf t ω) θ → For bias y N t (ω ++ θ)
 run-for (halt s) k f = f
 run-for (go d r) k f = for-run d (k .0, tt) (run-for r (k .1) f)
 
-pub run-none : {bias : ℕ} {y : ℕ} {N : List Job} {t : ℕ} {ω N′ : List Job} → Run N t ω N′ → NoOrder bias y N′ (endOf t ω) → NoOrder bias y N t
+pub run-none : {bias : ℕ} {y : ℕ} {N : List Job} {t : ℕ} {ω N′ : List Job} → Run N t ω N′ → NoOrder bias y N′ (endOf t ω) →
+    NoOrder bias y N t
 run-none (halt s) n = n
 run-none (go d r) n = no-run d (run-none r n)
 

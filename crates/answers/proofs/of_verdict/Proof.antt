@@ -26,4 +26,5 @@ returns-3 : tie.Need-returns-3
 returns-3 c = rw (c .before .before .answer3 .given .1) (c .refused .ensures)
 
 pub of-verdict-spec : {M : Type 1} → statement M
-of-verdict-spec = tie.close (tie.spec enum-known-answer enum-known-answer-2 enum-known-answer-3 refused-requires returns returns-2 returns-3)
+of-verdict-spec = tie.close
+    (tie.spec enum-known-answer enum-known-answer-2 enum-known-answer-3 refused-requires returns returns-2 returns-3)

@@ -18,7 +18,8 @@ use Rattle.book.specs.Rows.{endStands, endTests}
 use Rattle.book.specs.Tables.{tableOf, unlessRefused}
 use Rattle.row_reader.proofs.Tests.{row-fits}
 use Rattle.book.proofs.Tables.{part-end}
-use Rattle.book.proofs.Reached.{Reached, reached-start, reached-end, reached-refused, reached-room, reached-on, whole-tests, whole-row, refused-tests}
+use Rattle.book.proofs.Reached.{Reached, reached-start, reached-end, reached-refused, reached-room, reached-on, whole-tests}
+use Rattle.book.proofs.Reached.{whole-row, refused-tests}
 use Rattle.book.proofs.read_rows.Statement.{statement}
 use Rattle.book.proofs.read_rows.Tie as tie
 

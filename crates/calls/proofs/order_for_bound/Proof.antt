@@ -49,7 +49,8 @@ returns-2 c =
     let s = c .before .before .before .before .before .before .before .before .before .before .before .before .before .before in
     let a = s .args in
     let r = c .before .before .before .before .before .before .before .before .before .before .before .read .result in
-    let y = bound-back (a .bound) (c .before .before .before .before .raise .result) (s .fits .bound) (c .before .before .before .before .raise .ensures) in
+    let y = bound-back (a .bound) (c .before .before .before .before .raise .result) (s .fits .bound)
+    (c .before .before .before .before .raise .ensures) in
     c .before .before .order-into .ensures ∙ ap (λ (z : ℤ). orderOutcome (planningBy (a .terms) r) z (a .result .now)) y ∙
     planned (c .before .before .before .before .before .before .before .before .before) .bound (a .bound) (a .result .now)
 

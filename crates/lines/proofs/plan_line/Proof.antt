@@ -48,9 +48,11 @@ returns c =
     let lately = ordered .before .before .before .before .before in
     let begun = lately .before .before .before .before .before .before .before .before .before in
     let front =
-    then-added (then-added (begun .put-field .ensures) (lately .before .before .before .before .put-field2 .ensures)) (lately .put-late .ensures) in
+    then-added (then-added (begun .put-field .ensures) (lately .before .before .before .before .put-field2 .ensures))
+    (lately .put-late .ensures) in
     let back =
-    then-added (then-added front (ordered .put .ensures)) (c .before .before .before .before .before .before .before .put-numbers .ensures) in
+    then-added (then-added front (ordered .put .ensures))
+    (c .before .before .before .before .before .before .before .put-numbers .ensures) in
     same-added (omega (arith, begun .before .before .before .before .before .pre .0)) refl
     (then-added back (c .before .before .put2 .ensures))
 

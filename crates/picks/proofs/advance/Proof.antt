@@ -26,10 +26,21 @@ wide-requires : tie.Need-wide-requires Inv-loop μ-loop
 wide-requires c κs = search needs
 
 mul-if1 : tie.Need-mul-if1 Inv-loop μ-loop
-mul-if1 c = record { fits = omega (arith, next-high (c .before .before .before .before .pre .3) (c .before .before .loop-test .taken) (c .wide .ensures)) }
+mul-if1 c =
+    record {
+      fits = omega (
+        arith,
+        next-high (c .before .before .before .before .pre .3) (c .before .before .loop-test .taken)
+            (c .wide .ensures),
+      );
+    }
 
 element-copy-out-if1 : tie.Need-element-copy-out-if1 Inv-loop μ-loop
-element-copy-out-if1 c = omega (arith, next-high (c .before .before .before .before .pre .3) (c .before .before .loop-test .taken) (c .wide .ensures))
+element-copy-out-if1 c = omega (
+  arith,
+  next-high (c .before .before .before .before .pre .3) (c .before .before .loop-test .taken)
+      (c .wide .ensures),
+)
 
 returns : tie.Need-returns Inv-loop μ-loop
 returns c =
@@ -54,7 +65,8 @@ loop-again c = (
   omega (arith, c .before .before .before .before .before .before .loop-test .taken),
   λ minutes due rest k s₀.
       next-put k (c .before .before .before .before .before .before .loop-test .taken) (c .before .before .before .before .wide .ensures)
-      (c .before .before .before .before .before .before .before .loop .inv .1 minutes due rest k s₀) (c .before .before .if1 .left) (c .put .ensures),
+      (c .before .before .before .before .before .before .before .loop .inv .1 minutes due rest k s₀) (c .before .before .if1 .left)
+      (c .put .ensures),
 )
 
 returns-2 : tie.Need-returns-2 Inv-loop μ-loop

@@ -20,7 +20,8 @@ wide-requires c κs = search needs
 
 returns-2 : tie.Need-returns-2
 returns-2 c =
-    λ job t rest ready k s l late. c .wide .ensures ∙ ahead-pick k s l (c .before .before .before .if1 .left) late (c .before .before .if2 .taken)
+    λ job t rest ready k s l late. c .wide .ensures ∙ ahead-pick k s l (c .before .before .before .if1 .left) late
+    (c .before .before .if2 .taken)
 
 returns-3 : tie.Need-returns-3
 returns-3 c = λ job t rest ready k s l late. none-picks k s l (c .before .if1 .left) late (c .if2 .left) .0

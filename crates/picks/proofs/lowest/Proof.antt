@@ -30,13 +30,22 @@ mul-result : tie.Need-mul-result Inv-loop μ-loop
 mul-result c = search needs
 
 cast-result : tie.Need-cast-result Inv-loop μ-loop
-cast-result c = omega (arith, trailing-le 64 (getD (c .before .before .before .before .args .ready .now) (c .before .before .before .loop .q) 0))
+cast-result c = omega (
+  arith,
+  trailing-le 64
+      (getD (c .before .before .before .before .args .ready .now) (c .before .before .before .loop .q) 0),
+)
 
 add-result : tie.Need-add-result Inv-loop μ-loop
-add-result c = omega (arith, trailing-le 64 (getD (c .before .before .before .before .args .ready .now) (c .before .before .before .loop .q) 0))
+add-result c = omega (
+  arith,
+  trailing-le 64
+      (getD (c .before .before .before .before .args .ready .now) (c .before .before .before .loop .q) 0),
+)
 
 returns : tie.Need-returns Inv-loop μ-loop
-returns c = let l = c .before .before .before .loop in let h = c .before .before .loop-test .taken in λ p s f. least-some (l .q) (l .inv .1 p s) (s .each (l .q) h) h (c .if1 .taken) f
+returns c = let l = c .before .before .before .loop in let h = c .before .before .loop-test .taken in λ p s f. least-some (l .q)
+    (l .inv .1 p s) (s .each (l .q) h) h (c .if1 .taken) f
 
 add-q : tie.Need-add-q Inv-loop μ-loop
 add-q c = search needs
@@ -45,7 +54,8 @@ loop-less : tie.Need-loop-less Inv-loop μ-loop
 loop-less c = search needs
 
 loop-again : tie.Need-loop-again Inv-loop μ-loop
-loop-again c = let l = c .before .before .before .loop in (search needs, λ p s. clear-next (l .q) (l .inv .1 p s) (s .each (l .q) (c .before .before .loop-test .taken)) (c .if1 .left))
+loop-again c = let l = c .before .before .before .loop in
+    (search needs, λ p s. clear-next (l .q) (l .inv .1 p s) (s .each (l .q) (c .before .before .loop-test .taken)) (c .if1 .left))
 
 returns-2 : tie.Need-returns-2 Inv-loop μ-loop
 returns-2 c = let l = c .before .loop in λ p s f. least-none (l .q) (l .inv .1 p s) (c .loop-test .left)

@@ -49,7 +49,8 @@ add-q c = search needs
 returns-2 : tie.Need-returns-2 Inv-loop μ-loop
 returns-2 c =
     let l = c .before .before .loop in
-    λ p s f on first. passed-none (c .before .before .before .before .args .i) (l .q) (l .inv .2) p s on first (c .if2 .taken) (c .before .if1 .left)
+    λ p s f on first. passed-none (c .before .before .before .before .args .i) (l .q) (l .inv .2) p s on first (c .if2 .taken)
+    (c .before .if1 .left)
 
 mul-w-2 : tie.Need-mul-w-2 Inv-loop μ-loop
 mul-w-2 c = search needs
@@ -63,8 +64,12 @@ loop-less c = search needs
 loop-again : tie.Need-loop-again Inv-loop μ-loop
 loop-again c =
     let a = c .before .before .before .before .before in
-    let l = c .before .before .before .loop in
-    (search needs, search needs, passed-next (a .args .i) (l .q) (l .inv .2) (a .pre .0) (l .inv .1) (omega arith) (c .before .before .if1 .left))
+    let l = c .before .before .before .loop in (
+      search needs,
+      search needs,
+      passed-next (a .args .i) (l .q) (l .inv .2) (a .pre .0) (l .inv .1) (omega arith)
+          (c .before .before .if1 .left),
+    )
 
 pub next-after-spec : {M : Type 1} → statement M
 next-after-spec =

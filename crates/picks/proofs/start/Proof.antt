@@ -19,7 +19,8 @@ returns : tie.Need-returns
 returns c = (
   λ minutes due k.
       let a = c .before .before .before .args in
-      started (c .before .before .before .pre .1) (c .at .ensures) (c .before .advance .ensures minutes due (countFrom 1 (a .n)) k (at-start k (a .free))),
+      started (c .before .before .before .pre .1) (c .at .ensures)
+      (c .before .advance .ensures minutes due (countFrom 1 (a .n)) k (at-start k (a .free))),
   c .at .ensures,
   refl,
 )

@@ -11,7 +11,8 @@ returns-2 : tie.Need-returns-2
 returns-2 c = let a = c .before .before .args in later-late (a .end) (a .late) (a .mark) (a .limit) (c .before .if1 .left) (c .if2 .taken)
 
 returns-3 : tie.Need-returns-3
-returns-3 c = let a = c .before .before .before .args in sooner-end (a .end) (a .late) (a .mark) (a .limit) (c .if3 .taken) (c .before .if2 .left)
+returns-3 c = let a = c .before .before .before .args in sooner-end (a .end) (a .late) (a .mark) (a .limit) (c .if3 .taken)
+    (c .before .if2 .left)
 
 returns-4 : tie.Need-returns-4
 returns-4 c =

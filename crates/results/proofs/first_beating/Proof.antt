@@ -66,7 +66,8 @@ returns-2 : tie.Need-returns-2 Inv-loop μ-loop
 returns-2 c =
     let l = c .before .loop in
     let a = c .before .before .args in
-    first-no (a .ends .now) (a .lates .now) (a .count) (omega arith) (omega arith) (pairAt (a .end) (a .late)) (l .i) (omega arith) (l .inv .1)
+    first-no (a .ends .now) (a .lates .now) (a .count) (omega arith) (omega arith) (pairAt (a .end) (a .late)) (l .i) (omega arith)
+    (l .inv .1)
 
 pub first-beating-spec : {M : Type 1} → statement M
 first-beating-spec =

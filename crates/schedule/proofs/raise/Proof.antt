@@ -19,7 +19,8 @@ sum c = ap (λ (z : ℤ). z +ℤ pos 2147483648) (widened (c .args .y) (c .fits 
 adds : (c : tie.Start) → SFits w64 (toZ w64 (ofZ w64 (toZ w32 (ofZ w32 (c .args .y)))) +ℤ pos 2147483648)
 adds c = subst (SFits w64) (sym (sum c)) (record { sfits = omega (arith, raised-fits (c .args .y) (c .fits .y)) })
 
-back : (c : tie.Start) → toZ w64 (ofZ w64 (toZ w64 (ofZ w64 (toZ w32 (ofZ w32 (c .args .y)))) +ℤ pos 2147483648)) ≡ pos (raised (c .args .y))
+back : (c : tie.Start) → toZ w64 (ofZ w64 (toZ w64 (ofZ w64 (toZ w32 (ofZ w32 (c .args .y)))) +ℤ pos 2147483648)) ≡ pos
+    (raised (c .args .y))
 back c = toZ-ofZ w64 _ (adds c) ∙ sum c
 
 cast-result : tie.Need-cast-result
@@ -29,7 +30,8 @@ add-result : tie.Need-add-result
 add-result c = adds c
 
 cast-result-2 : tie.Need-cast-result-2
-cast-result-2 c = subst (λ (z : ℤ). T (nonNeg z) × Fits w32 (natAbs z)) (sym (back c)) (tt, record { fits = omega (arith, raised-fits (c .args .y) (c .fits .y)) })
+cast-result-2 c = subst (λ (z : ℤ). T (nonNeg z) × Fits w32 (natAbs z)) (sym (back c))
+    (tt, record { fits = omega (arith, raised-fits (c .args .y) (c .fits .y)) })
 
 returns : tie.Need-returns
 returns c = ap natAbs (back c)

@@ -34,7 +34,8 @@ returns c =
     let w = now (l .before .before .args .word) in
     let i = l .loop .i in
     let h : i < length w = omega arith in
-    sym (sym (l .loop .inv .1) ∙ digits-step w i h ∙ ap (λ (t : Bool). t && allDigits (drop (i + 1) w)) (sym (c .before .is-digit .ensures) ∙ not-true _ (c .if1 .taken)))
+    sym (sym (l .loop .inv .1) ∙ digits-step w i h ∙ ap (λ (t : Bool). t && allDigits (drop (i + 1) w))
+    (sym (c .before .is-digit .ensures) ∙ not-true _ (c .if1 .taken)))
 
 add-i : tie.Need-add-i Inv-loop μ-loop
 add-i c = search needs
@@ -47,8 +48,11 @@ loop-again c =
     let l = c .before .before .before .before in
     let w = now (l .before .before .args .word) in
     let i = l .loop .i in
-    let h : i < length w = omega arith in
-    (search needs, ap (λ (t : Bool). t && allDigits (drop (i + 1) w)) (sym (not-false _ (c .if1 .left)) ∙ c .before .is-digit .ensures) ∙ sym (digits-step w i h) ∙ l .loop .inv .1)
+    let h : i < length w = omega arith in (
+      search needs,
+      ap (λ (t : Bool). t && allDigits (drop (i + 1) w)) (sym (not-false _ (c .if1 .left)) ∙ c .before .is-digit .ensures) ∙
+          sym (digits-step w i h) ∙ l .loop .inv .1,
+    )
 
 returns-2 : tie.Need-returns-2 Inv-loop μ-loop
 returns-2 c = let l = c .before in sym (digits-end (now (l .before .before .args .word)) (l .loop .i) (omega arith)) ∙ l .loop .inv .1

@@ -14,10 +14,12 @@ word-of-requires-2 : tie.Need-word-of-requires-2
 word-of-requires-2 c κs = search needs
 
 returns : tie.Need-returns
-returns c = c .word-of .ensures ∙ ap (λ (b : Bool). cond b 0 6 * 536870912 + c .before .before .args .value % 536870912) (sym (c .before .if1 .taken))
+returns c = c .word-of .ensures ∙ ap (λ (b : Bool). cond b 0 6 * 536870912 + c .before .before .args .value % 536870912)
+    (sym (c .before .if1 .taken))
 
 returns-2 : tie.Need-returns-2
-returns-2 c = c .word-of2 .ensures ∙ ap (λ (b : Bool). cond b 0 6 * 536870912 + c .before .before .args .value % 536870912) (sym (c .before .if1 .left))
+returns-2 c = c .word-of2 .ensures ∙ ap (λ (b : Bool). cond b 0 6 * 536870912 + c .before .before .args .value % 536870912)
+    (sym (c .before .if1 .left))
 
 pub last-word-spec : {M : Type 1} → statement M
 last-word-spec = tie.close (tie.spec word-of-requires word-of-requires-2 returns returns-2)

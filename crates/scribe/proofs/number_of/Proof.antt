@@ -15,13 +15,15 @@ all-digits-requires : tie.Need-all-digits-requires
 all-digits-requires c κs = search needs
 
 returns-2 : tie.Need-returns-2
-returns-2 c = sym (number-strange (now (c .before .before .before .before .args .word)) (c .before .before .if1 .left) (sym (c .before .all-digits .ensures) ∙ not-true _ (c .if2 .taken)))
+returns-2 c = sym (number-strange (now (c .before .before .before .before .args .word)) (c .before .before .if1 .left)
+    (sym (c .before .all-digits .ensures) ∙ not-true _ (c .if2 .taken)))
 
 value-requires : tie.Need-value-requires
 value-requires c κs = search needs
 
 returns-3 : tie.Need-returns-3
-returns-3 c = c .value .ensures ∙ sym (number-digits (now (c .before .before .before .before .before .args .word)) (c .before .before .before .if1 .left) (sym (c .before .before .all-digits .ensures) ∙ not-false _ (c .before .if2 .left)))
+returns-3 c = c .value .ensures ∙ sym (number-digits (now (c .before .before .before .before .before .args .word))
+    (c .before .before .before .if1 .left) (sym (c .before .before .all-digits .ensures) ∙ not-false _ (c .before .if2 .left)))
 
 pub number-of-spec : {M : Type 1} → statement M
 number-of-spec =

@@ -18,12 +18,15 @@ abbrev μ-loop : tie.MeasureT-loop
 μ-loop word v₀ i₀ v i = length word - i
 
 -- One more digit.
-onward : (c : tie.After-digit Inv-loop μ-loop) → decimal 0 (now (c .before .before .before .before .before .args .word)) ≡ decimal (10 * c .before .before .before .loop .v + c .digit .result) (drop (c .before .before .before .loop .i + 1) (now (c .before .before .before .before .before .args .word)))
+onward : (c : tie.After-digit Inv-loop μ-loop) → decimal 0 (now (c .before .before .before .before .before .args .word)) ≡ decimal
+    (10 * c .before .before .before .loop .v + c .digit .result)
+    (drop (c .before .before .before .loop .i + 1) (now (c .before .before .before .before .before .args .word)))
 onward c =
     let l = c .before .before .before in
     let w = now (l .before .before .args .word) in
     let h : l .loop .i < length w = omega arith in
-    sym (l .loop .inv .2) ∙ decimal-step (l .loop .v) w (l .loop .i) h ∙ ap (λ (d : ℕ). decimal (10 * l .loop .v + d) (drop (l .loop .i + 1) w)) (sym (c .digit .ensures .0))
+    sym (l .loop .inv .2) ∙ decimal-step (l .loop .v) w (l .loop .i) h ∙ ap
+    (λ (d : ℕ). decimal (10 * l .loop .v + d) (drop (l .loop .i + 1) w)) (sym (c .digit .ensures .0))
 
 loop-holds : tie.Need-loop-holds Inv-loop μ-loop
 loop-holds c = (search needs, search needs, refl)
@@ -43,7 +46,13 @@ add-v c = search needs
 returns : tie.Need-returns Inv-loop μ-loop
 returns c =
     let l = c .before .before .before .before in
-    sym (sized-large (decimal 0 (now (l .before .before .args .word))) (omega (arith, onward (c .before), decimal-grows (10 * l .loop .v + c .before .digit .result) (drop (l .loop .i + 1) (now (l .before .before .args .word))))))
+    sym (sized-large (decimal 0 (now (l .before .before .args .word)))
+    (omega (
+      arith,
+      onward (c .before),
+      decimal-grows (10 * l .loop .v + c .before .digit .result)
+          (drop (l .loop .i + 1) (now (l .before .before .args .word))),
+    )))
 
 add-i : tie.Need-add-i Inv-loop μ-loop
 add-i c = search needs
@@ -61,7 +70,8 @@ returns-2 : tie.Need-returns-2 Inv-loop μ-loop
 returns-2 c =
     let l = c .before in
     let w = now (l .before .before .args .word) in
-    sym (ap sized (sym (l .loop .inv .2) ∙ decimal-end (l .loop .v) w (l .loop .i) (omega arith)) ∙ sized-small (l .loop .v) (l .loop .inv .1))
+    sym (ap sized (sym (l .loop .inv .2) ∙ decimal-end (l .loop .v) w (l .loop .i) (omega arith)) ∙ sized-small (l .loop .v)
+    (l .loop .inv .1))
 
 pub value-spec : {M : Type 1} → statement M
 value-spec =
