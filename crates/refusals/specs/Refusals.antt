@@ -53,3 +53,11 @@ byUnkept = 12
 -- 13, crossed: two rows cross.
 abbrev pub byCrossed : ℕ
 byCrossed = 13
+
+-- 14, done: the row was started before.
+abbrev pub byDone : ℕ
+byDone = 14
+
+-- 15, early: the minute of a start is before the desk's minute or the release, or past 20,000,000.
+abbrev pub byEarly : ℕ
+byEarly = 15

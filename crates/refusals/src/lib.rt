@@ -35,6 +35,10 @@ impl Tested {
     pub const UNKEPT: u32 = 12;
 
     pub const CROSSED: u32 = 13;
+
+    pub const DONE: u32 = 14;
+
+    pub const EARLY: u32 = 15;
 }
 
 // One test: where it is true, the refusal.

@@ -28,6 +28,17 @@ latestBookEnd = 17680000
 abbrev pub leastLateness : ℤ
 leastLateness = negsuc 19999998
 
+-- The latest minute of a start on an open desk, the latest minute at which such a desk stands, and the latest end and lateness of its rows
+-- left: the first start of the most rows moves it there at the latest.
+abbrev pub latestStart : ℕ
+latestStart = 20000000
+
+abbrev pub latestStand : ℕ
+latestStand = 20030000
+
+abbrev pub latestDeskEnd : ℕ
+latestDeskEnd = 27680000
+
 -- The longest time a row can take at the desk, and the latest minute at which planning can end: a desk that stands at 20,000,000 takes
 -- the most rows of the longest time.
 abbrev pub longestTime : ℕ

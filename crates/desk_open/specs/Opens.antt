@@ -1,0 +1,47 @@
+-- Opening a desk with a book: the words that the desk then has, and the whole outcome of the call.
+-- Rests on: the readers, the words of a desk, what a call gives (outcomes).
+use Prim.Native.Nat.{ℕ, _+_}
+use mathlib.Core.Bool.{true, false}
+use mathlib.Core.List.{List, [], _∷_, _++_, map}
+use lib.Dec.{ltb}
+use lib.ListN.{length, take, drop, replicate}
+use Rattle.schedule.specs.declared.Row.{Row}
+use Rattle.schedule.specs.declared.Profile.the-variants.{Ordering}
+use Rattle.schedule.specs.Rows.{Day}
+use Rattle.refusals.specs.Refusals.{byNarrow}
+use Rattle.book.specs.Rows.{refused, accepted}
+use Rattle.readers.specs.Reads.{readBy}
+use Rattle.results.specs.Results.{written}
+use Rattle.calls.specs.Planning.{Outcome, gives}
+use Rattle.running.specs.Words.{deskWords, releases, lengths, dues}
+use Rattle.desk_open.specs.declared.OpenAnswer.{OpenAnswer}
+use Rattle.desk_open.specs.declared.OpenAnswer.the-variants as open-answer
+
+-- A run of words with others from a place on.
+unfoldable pub put : (place : ℕ) → List ℕ → List ℕ → List ℕ
+put p xs ws = take p ws ++ xs ++ drop (p + length xs) ws
+
+-- The words of a desk as a day opens it: the count of rows and the free minute; release, length and due of each row; all others 0. So no
+-- row is done, and there is no worst lateness yet.
+unfoldable pub openedWords : Day → List ℕ
+openedWords day =
+    put (releases + 1) (map (λ (r : Row). r .release) (day .rows))
+    (put (lengths + 1) (map (λ (r : Row). r .length) (day .rows))
+    (put (dues + 1) (map (λ (r : Row). r .due) (day .rows))
+    (put 0 (length (day .rows) ∷ day .free ∷ []) (replicate deskWords 0))))
+
+-- The call: the book's refusals, then a run that is too short; otherwise the count of rows and the desk's minute, and the words of the
+-- desk. Words of a longer run hold what they held.
+unfoldable pub openCall : (book desk : List ℕ) → Outcome OpenAnswer
+openCall book ws = elim (readBy (record { profile = Ordering }) book) [
+  | refused n p ↦ gives (open-answer.Refused n p) ws
+  | accepted day ↦ elim (ltb (length ws) deskWords) [
+    | true ↦ gives (open-answer.Refused byNarrow 0) ws
+    | false ↦ gives (open-answer.Opened (length (day .rows)) (day .free)) (written (openedWords day) ws)
+  ]
+]
+
+-- Opens every definition of this file: name it on an `unfolding` line where all is to be computed.
+unfoldable pub openOpens : Unit {0}
+unfolding put openedWords openCall
+openOpens = tt

@@ -1,0 +1,37 @@
+-- The rows left on a running desk: whether they can be planned. On a desk that an opening and starts have left they always can; on other
+-- words that look like a desk they may not.
+-- Rests on: the running desk and its words, the rule of rows (readers).
+use Prim.Native.Nat.{ℕ, _+_, _*_}
+use mathlib.Core.Bool.{Bool, true, false, _&&_}
+use mathlib.Core.List.{List, map}
+use lib.Dec.{leb}
+use lib.ListN.{length}
+use Rattle.theory.specs.Jobs.{Job}
+use Rattle.schedule.specs.Limits.{longestLength, latestDeskEnd}
+use Rattle.schedule.specs.declared.Row.{Row}
+use Rattle.schedule.specs.declared.Class.the-variants.{None}
+use Rattle.schedule.specs.declared.Profile.the-variants.{Ordering}
+use Rattle.refusals.specs.declared.Tested.{Tested}
+use Rattle.refusals.specs.declared.Tested.the-variants.{Passed, Refused}
+use Rattle.readers.specs.Rules.{ruleTests}
+use Rattle.running.specs.Running.{Running, jobIn}
+use Rattle.running.specs.Words.{running, isDesk}
+
+-- A row of which nothing is known but its job; and the rows left, so.
+abbrev pub plainRow : Job → Row
+plainRow j = record { number = 0; release = j .release; length = j .length; due = j .due; class = None }
+
+abbrev pub plainLeft : Running → List Row
+plainLeft d = map (λ i. plainRow (jobIn (d .rows) i)) (d .left)
+
+abbrev pub hasPassed : Tested → Bool
+hasPassed Passed = true
+hasPassed (Refused n p) = false
+
+-- No two rows left disagree, and the desk's minute leaves room for them: they end by 27,680,000.
+unfoldable pub canPlan : Running → Bool
+canPlan d = leb (d .minute + longestLength * length (d .left)) latestDeskEnd && hasPassed (ruleTests Ordering (plainLeft d))
+
+-- The words hold a desk whose rows left can be planned.
+unfoldable pub plansHere : List ℕ → Bool
+plansHere ws = isDesk ws && canPlan (running ws)

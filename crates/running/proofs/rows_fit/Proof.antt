@@ -1,0 +1,32 @@
+-- `rows_fit` meets its contract.
+-- Assumes nothing.
+use borrow.Author.Needs.{needs}
+use Rattle.running.specs.Words.{rowsFit}
+use Rattle.running.proofs.rows_fit.Statement.{statement}
+use Rattle.running.proofs.rows_fit.Tie as tie
+
+column-fits-requires : tie.Need-column-fits-requires
+column-fits-requires c κs = search needs
+
+column-fits-requires-2 : tie.Need-column-fits-requires-2
+column-fits-requires-2 c κs = search needs
+
+column-fits-requires-3 : tie.Need-column-fits-requires-3
+column-fits-requires-3 c κs = search needs
+
+column-fits-requires-4 : tie.Need-column-fits-requires-4
+column-fits-requires-4 c κs = search needs
+
+returns : tie.Need-returns
+unfolding rowsFit
+returns c = cc
+
+pub rows-fit-spec : {M : Type 1} → statement M
+rows-fit-spec =
+    tie.close
+    (tie.spec
+    column-fits-requires
+    column-fits-requires-2
+    column-fits-requires-3
+    column-fits-requires-4
+    returns)

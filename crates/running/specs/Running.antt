@@ -1,0 +1,67 @@
+-- The running desk: the rows it was opened with, those left, its minute, and the worst lateness so far. Its starts, and what is planned on
+-- it. Rests on: the schedule's rows and plans, the tests in sequence, what is planned (outcomes).
+use Prim.Native.Nat.{ℕ, _+_, _*_}
+use mathlib.Core.Bool.{Bool, not, _&&_, _||_}
+use mathlib.Core.List.{List, [], _∷_, map}
+use mathlib.Core.Option.{Option, none, some}
+use lib.Dec.{leb, ltb}
+use lib.ListN.{length, getD}
+use lib.IntN.{ℤ, subℕ}
+use Rattle.theory.specs.Jobs.{Job}
+use Rattle.schedule.specs.Limits.{latestStart}
+use Rattle.schedule.specs.Rows.{jobOf, Day, rowNumbers, stands, without}
+use Rattle.schedule.specs.Desk.{maxZ}
+use Rattle.refusals.specs.declared.Tested.{Tested}
+use Rattle.refusals.specs.Refusals.{byUnlisted, byDone, byEarly}
+use Rattle.refusals.specs.Tests.{refuseIf, _then_}
+
+-- A running desk. `rows` is what planning sees of each row of its book; the rows done are those that are not left. The worst lateness so
+-- far is none until a row is done.
+pub record Running : Type 0 where
+  pub rows : List Job
+  pub left : List ℕ
+  pub minute : ℕ
+  pub worst : Option ℤ
+
+-- A desk as it is opened: every row is left, at the free minute.
+abbrev pub opened : Day → Running
+opened day = record { rows = map jobOf (day .rows); left = rowNumbers day; minute = day .free; worst = none }
+
+-- The job of a row number from 1 on. (0 is no row, and so is a number past the last.)
+abbrev pub noJob : Job
+noJob = record { release = 0; length = 0; due = 0 }
+
+abbrev pub jobIn : List Job → ℕ → Job
+jobIn rows i = getD (noJob ∷ rows) i noJob
+
+-- A number lies between two others.
+abbrev pub between : (least most : ℕ) → ℕ → Bool
+between least most x = leb least x && leb x most
+
+-- When a start of row i at the minute m is turned down: no such row, 11 with the count of all rows; started before, 14 with the row; before
+-- the desk's minute or the release, or past the latest start, 15.
+unfoldable pub startTests : Running → (i m : ℕ) → Tested
+startTests d i m =
+    refuseIf (not (between 1 (length (d .rows)) i)) byUnlisted (length (d .rows)) then
+    refuseIf (not (stands i (d .left))) byDone i then
+    refuseIf (ltb m (d .minute) || (ltb m (jobIn (d .rows) i .release) || ltb latestStart m)) byEarly 0
+
+-- The worst lateness so far with one lateness more.
+unfoldable pub worse : Option ℤ → ℤ → ℤ
+worse none y = y
+worse (some z) y = maxZ z y
+
+-- Row i started at the minute m: when it ends, how late it is, and the desk after it.
+abbrev pub endAt : Running → (i m : ℕ) → ℕ
+endAt d i m = m + jobIn (d .rows) i .length
+
+abbrev pub worstAt : Running → (i m : ℕ) → ℤ
+worstAt d i m = worse (d .worst) (subℕ (endAt d i m) (jobIn (d .rows) i .due))
+
+abbrev pub moved : Running → (i m : ℕ) → Running
+moved d i m = record { rows = d .rows; left = without i (d .left); minute = endAt d i m; worst = some (worstAt d i m) }
+
+-- Opens every definition of this file: name it on an `unfolding` line where all is to be computed.
+unfoldable pub openRunning : Unit {0}
+unfolding startTests worse
+openRunning = tt

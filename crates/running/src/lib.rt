@@ -1,0 +1,102 @@
+// The words of a lent desk: where each number stands, and whether a run of words holds a desk.
+ghost use mathlib.Core.Path.{_≡_};
+ghost use Prim.Native.Nat.{_+_, _≤_};
+ghost use lib.ListN.{length};
+ghost use Rattle.schedule.specs.Limits.{mostRows};
+ghost use Rattle.running.specs.Running.{between};
+ghost use Rattle.running.specs.Words.{deskWords, columnFits, headFits, rowsFit, isDesk};
+use schedule::Desk;
+
+// Where the numbers of a desk stand in its words. Row i has word i of each column, counted from 1: a column is named by the place before its
+// first word.
+pub struct Layout {}
+
+impl Layout {
+    // The words of a desk.
+    pub const WORDS: usize = 1_288;
+
+    pub const COUNT: usize = 0;
+
+    pub const MINUTE: usize = 1;
+
+    pub const WORST: usize = 2;
+
+    pub const RELEASES: usize = 7;
+
+    pub const LENGTHS: usize = 263;
+
+    pub const DUES: usize = 519;
+
+    // 1 where the row is done.
+    pub const MARKS: usize = 775;
+
+    // The latest minute of a start, and the latest at which a desk stands.
+    pub const LATEST_START: u32 = 20_000_000;
+
+    pub const LATEST_STAND: u32 = 20_030_000;
+
+    // The least and the most lateness of a row that is done, raised by 2^31.
+    const LEAST_RAISED: u32 = 2_127_483_649;
+
+    const MOST_RAISED: u32 = 2_167_513_648;
+
+    // The longest length of a row.
+    const LONGEST: u32 = 30_000;
+}
+
+// A number lies between two others. Both sides are worked out: columns are tested without a branch.
+fn is_between(least: u32, most: u32, x: u32) -> bool
+    ensures { λ r. ⌜ r ≡ between least most x ⌝ }
+{
+    (least <= x) & (x <= most)
+}
+
+// The first n words of a column are between two numbers.
+fn column_fits(desk: &[u32], before: usize, least: u32, most: u32, n: usize) -> bool
+    requires { ⌜ (n ≤ mostRows) × (before + mostRows ≤ 1287) × (deskWords ≤ length (now desk)) ⌝ }
+    ensures { λ r. ⌜ r ≡ columnFits before least most (now (desk .entry)) n ⌝ }
+{
+    let mut i: usize = 0;
+    let mut fit = true;
+    while i < n {
+        i += 1;
+        fit = fit & is_between(least, most, desk[before + i]);
+    }
+    fit
+}
+
+// The numbers of the first n rows are in their ranges.
+fn rows_fit(desk: &[u32], n: usize) -> bool
+    requires { ⌜ (n ≤ mostRows) × (deskWords ≤ length (now desk)) ⌝ }
+    ensures { λ r. ⌜ r ≡ rowsFit (now (desk .entry)) n ⌝ }
+{
+    let release = column_fits(desk, Layout::RELEASES, 0, Desk::MINUTES, n);
+    let minutes = column_fits(desk, Layout::LENGTHS, 1, Layout::LONGEST, n);
+    let due = column_fits(desk, Layout::DUES, 0, Desk::DUES, n);
+    let mark = column_fits(desk, Layout::MARKS, 0, 1, n);
+    release & (minutes & (due & mark))
+}
+
+// The count of rows, the minute and the worst lateness so far are in theirs.
+fn head_fits(desk: &[u32]) -> bool
+    requires { ⌜ deskWords ≤ length (now desk) ⌝ }
+    ensures { λ r. ⌜ r ≡ headFits (now (desk .entry)) ⌝ }
+{
+    let worst = desk[Layout::WORST];
+    is_between(1, 256, desk[Layout::COUNT])
+        & ((desk[Layout::MINUTE] <= Layout::LATEST_STAND)
+            & ((worst == 0) | is_between(Layout::LEAST_RAISED, Layout::MOST_RAISED, worst)))
+}
+
+// The words hold a desk.
+pub fn is_desk(desk: &[u32]) -> bool
+    ensures { λ r. ⌜ r ≡ isDesk (now (desk .entry)) ⌝ }
+{
+    if desk.len() < Layout::WORDS {
+        return false;
+    }
+    if head_fits(desk) {
+        return rows_fit(desk, desk[Layout::COUNT] as usize);
+    }
+    false
+}
