@@ -11,31 +11,33 @@ use Rattle.calls.specs.declared.OrderAnswer.the-variants as order-answer
 use Rattle.calls.specs.declared.VerdictAnswer.{VerdictAnswer}
 use Rattle.calls.specs.declared.VerdictAnswer.the-variants as verdict-answer
 
--- The refusal's number, 0 for none, and place; the count of plans, or the plan that beats; end and worst lateness.
+-- The refusal's number, 0 for none, and place; the count of plans, the plan that beats, or the rows of an opened desk; end and worst
+-- lateness, or that of an open desk so far; an open desk's minute.
 pub record Said : Type 0 where
   pub number : ℕ
   pub place : ℕ
   pub count : ℕ
   pub end : ℕ
   pub late : ℤ
+  pub minute : ℕ
 
 abbrev pub saidNo : ℕ → ℕ → Said
-saidNo n p = record { number = n; place = p; count = 0; end = 0; late = pos 0 }
+saidNo n p = record { number = n; place = p; count = 0; end = 0; late = pos 0; minute = 0 }
 
 abbrev pub saidList : ListAnswer → Said
-saidList (list-answer.Plans k) = record { number = 0; place = 0; count = k; end = 0; late = pos 0 }
+saidList (list-answer.Plans k) = record { number = 0; place = 0; count = k; end = 0; late = pos 0; minute = 0 }
 saidList (list-answer.Refused n p) = saidNo n p
 
 abbrev pub saidOrder : OrderAnswer → Said
-saidOrder (order-answer.Pair e y) = record { number = 0; place = 0; count = 0; end = e; late = y }
+saidOrder (order-answer.Pair e y) = record { number = 0; place = 0; count = 0; end = e; late = y; minute = 0 }
 saidOrder (order-answer.Refused n p) = saidNo n p
 
 abbrev pub saidVerdict : VerdictAnswer → Said
-saidVerdict (verdict-answer.Unbeaten e y) = record { number = 0; place = 0; count = 0; end = e; late = y }
-saidVerdict (verdict-answer.Beaten e y k) = record { number = 0; place = 0; count = k; end = e; late = y }
+saidVerdict (verdict-answer.Unbeaten e y) = record { number = 0; place = 0; count = 0; end = e; late = y; minute = 0 }
+saidVerdict (verdict-answer.Beaten e y k) = record { number = 0; place = 0; count = k; end = e; late = y; minute = 0 }
 saidVerdict (verdict-answer.Refused n p) = saidNo n p
 
 -- The place of a row's number word, where it is found.
 abbrev pub saidPlace : RowPlace → Said
-saidPlace (row-place.At a) = record { number = 0; place = a; count = 0; end = 0; late = pos 0 }
+saidPlace (row-place.At a) = record { number = 0; place = a; count = 0; end = 0; late = pos 0; minute = 0 }
 saidPlace (row-place.Refused n p) = saidNo n p

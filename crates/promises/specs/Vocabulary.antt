@@ -49,16 +49,16 @@ module _ (terms : Terms) (book : List ℕ) where
 
 -- What the calls say when they are not refused: so many plans; a pair; a pair and the plan that beats it, 0 for none; a place.
 abbrev pub saidCount : ℕ → Said
-saidCount k = record { number = 0; place = 0; count = k; end = 0; late = pos 0 }
+saidCount k = record { number = 0; place = 0; count = k; end = 0; late = pos 0; minute = 0 }
 
 abbrev pub saidPair : Pair → Said
-saidPair p = record { number = 0; place = 0; count = 0; end = p .end; late = p .late }
+saidPair p = record { number = 0; place = 0; count = 0; end = p .end; late = p .late; minute = 0 }
 
 abbrev pub saidJudged : Pair → ℕ → Said
-saidJudged p k = record { number = 0; place = 0; count = k; end = p .end; late = p .late }
+saidJudged p k = record { number = 0; place = 0; count = k; end = p .end; late = p .late; minute = 0 }
 
 abbrev pub saidAt : ℕ → Said
-saidAt a = record { number = 0; place = a; count = 0; end = 0; late = pos 0 }
+saidAt a = record { number = 0; place = a; count = 0; end = 0; late = pos 0; minute = 0 }
 
 -- A call is refused n at p.
 abbrev pub Refuses : Said → (n p : ℕ) → Type 0

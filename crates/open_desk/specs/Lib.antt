@@ -1,0 +1,4 @@
+pub mod Answers
+pub mod History
+pub mod Table
+pub mod Promise

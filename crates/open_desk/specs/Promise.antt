@@ -1,0 +1,94 @@
+-- The open desk: what is promised of it. A desk is a lent run of words that an opening fills from a book; a history is a list of calls on
+-- it. The proofs are `desk-memory`, `desk-definitions` and `open-desk`, in proofs/Promise.antt. That each function does what is said here
+-- of its call is its contract (src/lib.rt). Rests on: History, Table, the promises of a book's calls.
+use Prim.Native.Nat.{ℕ, _+_, _*_, _≤_, _<_}
+use mathlib.Core.Path.{_≡_}
+use mathlib.Core.List.{List, [], map}
+use mathlib.Core.Logic.{_↔_, _⊎_}
+use lib.ListN.{length, drop, getD}
+use lib.IntN.{pos}
+use lib.Signed.{_≤ℤ_}
+use Rattle.schedule.specs.Limits.{latestDeskEnd, leastLateness, longestLength}
+use Rattle.schedule.specs.declared.Profile.the-variants.{Ordering}
+use Rattle.schedule.specs.Rows.{Day}
+use Rattle.calls.specs.Answers.{Said}
+use Rattle.calls.specs.Planning.{Outcome, Planning}
+use Rattle.promises.specs.Vocabulary.{Refuses, saidCount, listed, ReaderOrder, endBy, lateBy, Accepts}
+use Rattle.promises.specs.Table.{Turned, ListTurned, PlanTurned}
+use Rattle.promises.specs.Promise.{Covered, PlanOrders}
+use Rattle.running.specs.Running.{Running, endAt, worstAt}
+use Rattle.running.specs.Words.{deskWords, running, marks, IsDesk}
+use Rattle.desk_plans.specs.Plans.{planningLeft}
+use Rattle.open_desk.specs.Answers.{saidOpened, saidMoved}
+use Rattle.open_desk.specs.History.{open, start, list, plan, Call, after, Start, acceptedStarts, asCall, standing}
+use Rattle.open_desk.specs.Table.{OpenTurned, StartTurned, CanPlan, DeskTurned}
+
+-- # 1. The lent memory, of any words whatever
+-- A refused call leaves what it is lent for writing, word for word, and its number is one of these. No call makes a run longer or shorter.
+pub record Lent (Numbers : ℕ → Type 0) (lent : List ℕ) (o : Outcome Said) : Type 0 where
+  pub number : 1 ≤ o .answer .number → Numbers (o .answer .number)
+  pub kept : 1 ≤ o .answer .number → o .buffer ≡ lent
+  pub same-length : length (o .buffer) ≡ length lent
+
+pub record DeskProperty1 : Type 0 where
+  pub of-open : (book ws : List ℕ) → Lent (λ n. (1 ≤ n) × (n ≤ 9)) ws (open book ws)
+  pub of-start : (ws : List ℕ) (i m : ℕ) → Lent (λ n. (n ≡ 3) ⊎ (n ≡ 11) ⊎ (n ≡ 14) ⊎ (n ≡ 15)) ws (start ws i m)
+  pub of-list : (ws b : List ℕ) → Lent (λ n. (n ≡ 3) ⊎ (n ≡ 9)) b (list ws b)
+  pub of-plan : (ws : List ℕ) (k : ℕ) (b : List ℕ) → Lent (λ n. (n ≡ 3) ⊎ (n ≡ 9) ⊎ (n ≡ 11)) b (plan ws k b)
+  -- An opening writes the first 1,288 words, and a start three of them: the minute, the worst lateness so far, and the mark of its row.
+  pub open-writes : (book ws : List ℕ) → drop deskWords (open book ws .buffer) ≡ drop deskWords ws
+  pub start-writes : (ws : List ℕ) (i m place : ℕ) → ¬ (place ≡ 1) → ¬ (place ≡ 2) → ¬ (place ≡ marks + i) →
+      getD (start ws i m .buffer) place 0 ≡ getD ws place 0
+
+-- # 2. The definitions, of any words whatever
+-- A call is refused n at p exactly if the condition holds and no earlier one does; a start that is not refused moves the desk.
+pub record DeskProperty2 : Type 0 where
+  pub open-refused : (book ws : List ℕ) (n p : ℕ) → Refuses (open book ws .answer) n p ↔ Turned Ordering book (λ day. OpenTurned ws) n p
+  pub start-refused : (ws : List ℕ) (i m n p : ℕ) → Refuses (start ws i m .answer) n p ↔
+      DeskTurned (IsDesk ws) (StartTurned (running ws) i m) n p
+  pub list-refused : (ws b : List ℕ) (n p : ℕ) → Refuses (list ws b .answer) n p ↔
+      DeskTurned (CanPlan ws) (ListTurned (planningLeft (running ws)) b) n p
+  pub plan-refused : (ws : List ℕ) (k : ℕ) (b : List ℕ) (n p : ℕ) → Refuses (plan ws k b .answer) n p ↔
+      DeskTurned (CanPlan ws) (PlanTurned (planningLeft (running ws)) k b) n p
+
+-- # 3. The open desk, over any series of calls
+-- A day's desk, opened, has these words; then these calls are made on it.
+module _ (day : Day) (opened : List ℕ) (calls : List Call) where
+  abbrev pub done : List Start
+  done = acceptedStarts opened calls
+
+  abbrev pub here : List ℕ
+  here = after opened calls
+
+  -- What is planned now: the rows left, from the desk's minute on.
+  abbrev pub planned : Planning
+  planned = planningLeft (standing day done)
+
+  pub record Kept : Type 0 where
+    -- The desk holds what the accepted starts alone give: word for word what it would hold if they alone had been called ..
+    pub word-for-word : here ≡ after opened (map asCall done)
+    -- .. and they give this: the rows that none of them took are left; the desk stands at the end of the last; the worst lateness so far
+    -- is the largest of theirs.
+    pub holds : running here ≡ standing day done
+    -- The next start is refused exactly so. Otherwise it answers the desk's new minute and the worst lateness so far, as that start and
+    -- those before it give them.
+    pub start-refused : (i m n p : ℕ) → Refuses (start here i m .answer) n p ↔ StartTurned (standing day done) i m n p
+    pub start-moves : (i m : ℕ) → start here i m .answer .number ≡ 0 →
+        start here i m .answer ≡ saidMoved (endAt (standing day done) i m) (worstAt (standing day done) i m)
+    -- The list and an order are refused for a short buffer, and an order for a plan's number that is not on the list; for nothing else.
+    pub list-refused : (b : List ℕ) (n p : ℕ) → Refuses (list here b .answer) n p ↔ ListTurned planned b n p
+    pub plan-refused : (k : ℕ) (b : List ℕ) (n p : ℕ) → Refuses (plan here k b .answer) n p ↔ PlanTurned planned k b n p
+    -- As long as a row is left, all that property 3 says of a book's list holds of this one: it covers each way of finishing the rest.
+    pub covered : 0 < length (planned .left) → (b : List ℕ) → 2 * length (planned .left) ≤ length b →
+        Covered planned (listed (list here b)) × PlanOrders planned (listed (list here b)) (plan here)
+    -- With none left there are no plans.
+    pub none-left : planned .left ≡ [] → (b : List ℕ) → list here b .answer ≡ saidCount 0
+    -- Ends and latenesses are at most 27,680,000: the minute plus 30,000 for each row left never passes it.
+    pub room : planned .minute + longestLength * length (planned .left) ≤ latestDeskEnd
+    pub ranges : 0 < length (planned .left) → (order : List ℕ) → ReaderOrder planned order →
+        (endBy planned order ≤ latestDeskEnd) × (lateBy planned order ≤ℤ pos latestDeskEnd) × (leastLateness ≤ℤ lateBy planned order)
+
+-- Whatever accepted book a desk is opened with, and whatever calls come after.
+abbrev pub OpenDesk : Type 0
+OpenDesk = (book ws : List ℕ) (day : Day) → Accepts Ordering book day → deskWords ≤ length ws →
+    (open book ws .answer ≡ saidOpened (length (day .rows)) (day .free)) × ((calls : List Call) → Kept day (open book ws .buffer) calls)

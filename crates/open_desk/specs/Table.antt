@@ -1,0 +1,33 @@
+-- The refusals of the open desk's calls: under which condition each is told, with the place. The proofs are in proofs/Refused.antt.
+-- Rests on: History, the running desk and its words, the table of a book's calls (promises).
+use Prim.Native.Nat.{ℕ, _+_, _*_, _≤_, _<_}
+use mathlib.Core.List.{List, List·Memᴰ}
+use mathlib.Core.Logic.{_⊎_}
+use lib.ListN.{length}
+use Rattle.schedule.specs.Limits.{latestStart, latestDeskEnd, longestLength}
+use Rattle.schedule.specs.Cover.{Agreeing}
+use Rattle.refusals.specs.Refusals.{byRange, byNarrow, byUnlisted, byDone, byEarly}
+use Rattle.running.specs.Running.{Running, jobIn}
+use Rattle.running.specs.Words.{deskWords, running, IsDesk}
+
+-- An opening of an accepted book: the run is too short for a desk.
+pub data OpenTurned (ws : List ℕ) : (n p : ℕ) → Type 0 where
+  narrow : length ws < deskWords → OpenTurned ws byNarrow 0
+
+-- A start on a running desk: no such row; then, the row was started before; then, too early or too late.
+pub data StartTurned (d : Running) (i m : ℕ) : (n p : ℕ) → Type 0 where
+  unlisted : ¬ ((1 ≤ i) × (i ≤ length (d .rows))) → StartTurned d i m byUnlisted (length (d .rows))
+  done : 1 ≤ i → i ≤ length (d .rows) → ¬ List·Memᴰ i (d .left) → StartTurned d i m byDone i
+  early : 1 ≤ i → i ≤ length (d .rows) → List·Memᴰ i (d .left) →
+      (m < d .minute) ⊎ (m < jobIn (d .rows) i .release) ⊎ (latestStart < m) → StartTurned d i m byEarly 0
+
+-- The words hold a desk whose rows left can be planned: its minute leaves room for them, and no two of them disagree.
+pub record CanPlan (ws : List ℕ) : Type 0 where
+  pub desk : IsDesk ws
+  pub room : running ws .minute + longestLength * length (running ws .left) ≤ latestDeskEnd
+  pub agree : Agreeing (jobIn (running ws .rows)) (running ws .left)
+
+-- A call on lent words: these are no desk that the call can work on; or they are one, and the call is turned down by it.
+pub data DeskTurned (Here : Type 0) (Own : (n p : ℕ) → Type 0) : (n p : ℕ) → Type 0 where
+  no-desk : ¬ Here → DeskTurned Here Own byRange 0
+  by-call : (n p : ℕ) → Here → Own n p → DeskTurned Here Own n p
