@@ -19,8 +19,8 @@ use Rattle.outcomes.specs.declared.ListAnswer.the-variants as list-answer
 use Rattle.outcomes.specs.declared.OrderAnswer.{OrderAnswer}
 use Rattle.outcomes.specs.declared.OrderAnswer.the-variants as order-answer
 use Rattle.outcomes.specs.declared.VerdictAnswer.{VerdictAnswer}
-use Rattle.calls.specs.Calls.{listCall, boundCall, planCall, verdictCall}
 use Rattle.outcomes.specs.Planning.{Outcome, gives}
+use Rattle.calls.specs.Calls.{listCall, boundCall, planCall, verdictCall}
 use Rattle.calls.specs.Lines.{Line, Printed, printed}
 
 -- A row of a book as the days give it: number, release, pages and due, or class.
