@@ -12,7 +12,7 @@ use Rattle.refusals.specs.Refusals.{byNarrow}
 use Rattle.book.specs.Rows.{refused, accepted}
 use Rattle.readers.specs.Reads.{readBy}
 use Rattle.results.specs.Results.{written}
-use Rattle.calls.specs.Planning.{Outcome, gives}
+use Rattle.outcomes.specs.Planning.{Outcome, gives}
 use Rattle.running.specs.Words.{deskWords, releases, lengths, dues}
 use Rattle.desk_open.specs.declared.OpenAnswer.{OpenAnswer}
 use Rattle.desk_open.specs.declared.OpenAnswer.the-variants as open-answer

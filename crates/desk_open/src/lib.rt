@@ -5,7 +5,7 @@ ghost use lib.ListN.{length, take, drop, replicate};
 ghost use Rattle.schedule.specs.Limits.{mostRows, rowPlaces};
 ghost use Rattle.results.specs.Results.{written};
 ghost use Rattle.running.specs.Words.{deskWords};
-ghost use Rattle.calls.specs.Planning.{gives};
+ghost use Rattle.outcomes.specs.Planning.{gives};
 ghost use Rattle.desk_open.specs.Opens.{put, openCall};
 use readers::Terms;
 use refusals::Tested;

@@ -6,7 +6,7 @@ use mathlib.Core.List.{List}
 use Rattle.schedule.specs.Offset.{raised}
 use Rattle.refusals.specs.declared.Tested.the-variants as tested
 use Rattle.refusals.specs.Refusals.{byRange}
-use Rattle.calls.specs.Planning.{Outcome, gives}
+use Rattle.outcomes.specs.Planning.{Outcome, gives}
 use Rattle.running.specs.Running.{Running, startTests, endAt, worstAt, openRunning}
 use Rattle.running.specs.Words.{running, isDesk, movedWords, openWords}
 use Rattle.desk_start.specs.declared.StartAnswer.{StartAnswer}

@@ -6,7 +6,7 @@ ghost use lib.ListN.{length};
 ghost use Rattle.schedule.specs.Limits.{mostRows};
 ghost use Rattle.running.specs.Running.{startTests};
 ghost use Rattle.running.specs.Words.{deskWords, running, isDesk, movedWords};
-ghost use Rattle.calls.specs.Planning.{gives};
+ghost use Rattle.outcomes.specs.Planning.{gives};
 ghost use Rattle.desk_start.specs.Starts.{startCall};
 use refusals::Tested;
 use running::Layout;

@@ -9,7 +9,7 @@ use lib.IntN.{ℤ, subℕ}
 use Rattle.schedule.specs.Rows.{jobOf, Day, jobs, rowNumbers, stands}
 use Rattle.schedule.specs.Desk.{worstOf}
 use Rattle.calls.specs.Answers.{Said, saidList, saidOrder}
-use Rattle.calls.specs.Planning.{Outcome}
+use Rattle.outcomes.specs.Planning.{Outcome}
 use Rattle.promises.specs.Vocabulary.{told}
 use Rattle.running.specs.Running.{Running}
 use Rattle.desk_open.specs.Opens.{openCall}
@@ -20,17 +20,17 @@ use Rattle.open_desk.specs.Answers.{saidOpen, saidStart}
 -- The offered calls: opening lent words with a book; and on these words, a start of a row at a minute, the list into a buffer, and the order
 -- of a listed plan by its number from 1. What is lent for writing is given with the answer, as it is after the call: the desk's words by
 -- the first two, the buffer by the others. These are lent the desk for reading.
-abbrev pub open : (book ws : List ℕ) → Outcome Said
-open book ws = told saidOpen (openCall book ws)
+abbrev pub deskOpen : (book ws : List ℕ) → Outcome Said
+deskOpen book ws = told saidOpen (openCall book ws)
 
-abbrev pub start : (ws : List ℕ) → (row minute : ℕ) → Outcome Said
-start ws i m = told saidStart (startCall ws i m)
+abbrev pub deskStart : (ws : List ℕ) → (row minute : ℕ) → Outcome Said
+deskStart ws i m = told saidStart (startCall ws i m)
 
-abbrev pub list : (ws b : List ℕ) → Outcome Said
-list ws b = told saidList (listCall ws b)
+abbrev pub deskList : (ws b : List ℕ) → Outcome Said
+deskList ws b = told saidList (listCall ws b)
 
-abbrev pub plan : (ws : List ℕ) → ℕ → (b : List ℕ) → Outcome Said
-plan ws k b = told saidOrder (planCall ws k b)
+abbrev pub deskPlan : (ws : List ℕ) → ℕ → (b : List ℕ) → Outcome Said
+deskPlan ws k b = told saidOrder (planCall ws k b)
 
 -- # A history is a list of calls on an open desk
 pub data Call : Type 0 where
@@ -40,7 +40,7 @@ pub data Call : Type 0 where
 
 -- The desk's words after a call, and after calls one after another.
 abbrev pub afterCall : List ℕ → Call → List ℕ
-afterCall ws (starts i m) = start ws i m .buffer
+afterCall ws (starts i m) = deskStart ws i m .buffer
 afterCall ws (lists b) = ws
 afterCall ws (orders k b) = ws
 
@@ -57,7 +57,7 @@ abbrev pub withStart : (refused : ℕ) → Start → List Start → List Start
 withStart n s ss = cond (eqb n 0) (s ∷ ss) ss
 
 abbrev pub withCall : List ℕ → Call → List Start → List Start
-withCall ws (starts i m) ss = withStart (start ws i m .answer .number) (record { row = i; minute = m }) ss
+withCall ws (starts i m) ss = withStart (deskStart ws i m .answer .number) (record { row = i; minute = m }) ss
 withCall ws (lists b) ss = ss
 withCall ws (orders k b) ss = ss
 
