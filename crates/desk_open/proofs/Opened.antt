@@ -26,8 +26,9 @@ use Rattle.desk_open.specs.Opens.{put, openedWords}
 use Rattle.desk_open.proofs.Puts.{put-length, put-inside, put-before, put-after}
 
 -- A number of each row, put after a place: that of row i stands i places on.
-column-at : (f : Row → ℕ) → f noRow ≡ 0 → (before : ℕ) (rows : List Row) (ws : List ℕ) → before + 1 + length (map f rows) ≤ length ws →
-    (i : ℕ) → 1 ≤ i → i ≤ length rows → at (put (before + 1) (map f rows) ws) (before + i) ≡ f (row rows i)
+column-at : (f : Row → ℕ) → f noRow ≡ 0 → (before : ℕ) (rows : List Row) (ws : List ℕ) →
+    before + 1 + length (map f rows) ≤ length ws → (i : ℕ) → 1 ≤ i → i ≤ length rows →
+    at (put (before + 1) (map f rows) ws) (before + i) ≡ f (row rows i)
 column-at f e before rows ws room zero h g = let z : ⊥ = omega arith in absurd z
 column-at f e before rows ws room (suc k) h g =
     let place : before + suc k ≡ before + 1 + k = omega arith in
@@ -35,14 +36,14 @@ column-at f e before rows ws room (suc k) h g =
     put-inside (before + 1) (map f rows) ws room k (omega (arith, length-map rows f)) ∙
     ap (getD (map f rows) k) (sym e) ∙ List·getD-map f rows k noRow
 
--- The words as they are put, one column after another.
-abbrev releaseOf : Row → ℕ
+-- What stands in the columns of a row, and the words as they are put one column after another.
+abbrev pub releaseOf : Row → ℕ
 releaseOf r = r .release
 
-abbrev lengthOf : Row → ℕ
+abbrev pub lengthOf : Row → ℕ
 lengthOf r = r .length
 
-abbrev dueOf : Row → ℕ
+abbrev pub dueOf : Row → ℕ
 dueOf r = r .due
 
 abbrev pub withHead : Day → List ℕ
@@ -65,7 +66,7 @@ module _ (day : Day) (few : length (day .rows) ≤ mostRows) where
   sized f = length-map rows f
 
   -- Each of them has its room.
-  pub head-room : 0 + 2 ≤ length blank
+  head-room : 0 + 2 ≤ length blank
   head-room = omega (arith, length-replicate {A = ℕ} deskWords 0)
 
   head-long : length (withHead day) ≡ deskWords
@@ -212,9 +213,13 @@ module _ (day : Day) (b : List ℕ) (a : AcceptedDay Ordering day) (wide : deskW
     rows = λ i h g.
         let inside : i ≤ n = omega (arith, count-is) in
         let e = job-is i h inside in
-        let r = a .ranged i (from-mem i 1 n h (omega arith)) in
-        (rw (ap (λ j. j .release) e) (r .0), rw (ap (λ j. j .length) e) (r .1), rw (ap (λ j. j .length) e) (r .2),
-        rw (ap (λ j. j .due) e) (r .3), omega (arith, mark-is i h inside));
+        let r = a .ranged i (from-mem i 1 n h (omega arith)) in (
+          rw (ap (λ j. j .release) e) (r .0),
+          rw (ap (λ j. j .length) e) (r .1),
+          rw (ap (λ j. j .length) e) (r .2),
+          rw (ap (λ j. j .due) e) (r .3),
+          omega (arith, mark-is i h inside),
+        );
   }
 
   held : running new ≡ opened day

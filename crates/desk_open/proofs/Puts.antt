@@ -6,11 +6,12 @@ use native.Mathlib.Nat.{not-suc-le-zero, le-of-suc-le-suc}
 use native.Mathlib.Numerals.{add-one}
 use mathlib.Core.Path.{_≡_, refl, sym, ap, _∙_}
 use mathlib.Core.List.{List, [], _∷_, _++_, append-assoc}
-use lib.ListN.{length, take, drop, getD, set, replicate, length-append, length-drop, List·getD-append}
-use lib.Seq.{paste, paste-zero, paste-suc, length-paste, length-take-le, take-length, take-append-le, drop-append-le}
+use lib.ListN.{length, take, drop, set, replicate, length-append, length-drop, length-replicate, List·getD-append}
+use lib.Seq.{paste, paste-zero, paste-suc, length-take-le, take-append-le, drop-append-le}
 use lib.Seq.{getD-append-add, getD-take, getD-drop, sets-eq}
 use Rattle.schedule.specs.Columns.{at}
 use Rattle.results.specs.Results.{written}
+use Rattle.running.specs.Words.{deskWords}
 use Rattle.desk_open.specs.Opens.{put}
 
 module _ (p : ℕ) (xs ws : List ℕ) (room : p + length xs ≤ length ws) where
@@ -78,11 +79,6 @@ module _ (before : ℕ) (column ws : List ℕ) where
       paste-suc ws (before + 1) (drop 1 column) i 0 (omega arith) inside ∙
       sym (ap (λ (k : ℕ). put (before + 1) (take k (drop 1 column)) ws) (add-one i) ∙ put-first (suc i) (omega arith))
 
--- The count of rows and the minute.
-pub head-put : (count free : ℕ) (ws : List ℕ) → 2 ≤ length ws → set (set ws 0 count) 1 free ≡ put 0 (count ∷ free ∷ []) ws
-unfolding put
-head-put count free ws h = sets-eq (count ∷ free ∷ []) ws 0 (omega arith)
-
 -- Zeros, written one after another.
 zero-after : (k : ℕ) (ws : List ℕ) → k < length ws → set (written (replicate k 0) ws) k 0 ≡ written (replicate (suc k) 0) ws
 unfolding written
@@ -92,3 +88,14 @@ zero-after (suc k) (w ∷ ws) h = ap (λ (r : List ℕ). 0 ∷ r) (zero-after k 
 
 pub zeros-more : (k : ℕ) (ws : List ℕ) → k < length ws → set (written (replicate k 0) ws) k 0 ≡ written (replicate (k + 1) 0) ws
 zeros-more k ws h = zero-after k ws h ∙ ap (λ (n : ℕ). written (replicate n 0) ws) (sym (add-one k))
+
+-- The count of rows and the minute, put before zeros.
+pub head-put : (count minute : ℕ) (ws cleared : List ℕ) → cleared ≡ written (replicate deskWords 0) ws →
+    set (set cleared 0 count) 1 minute ≡ written (put 0 (count ∷ minute ∷ []) (replicate deskWords 0)) ws
+unfolding put written
+head-put count minute ws cleared e =
+    let blank : List ℕ = replicate deskWords 0 in
+    let two : 0 + 2 ≤ length blank = omega (arith, length-replicate {A = ℕ} deskWords 0) in
+    let all : 0 + 2 ≤ length (written blank ws) = omega (arith, length-append blank (drop (length blank) ws)) in
+    ap (λ (d : List ℕ). set (set d 0 count) 1 minute) e ∙ sets-eq (count ∷ minute ∷ []) (written blank ws) 0 all ∙
+    put-written 0 (count ∷ minute ∷ []) blank two ws

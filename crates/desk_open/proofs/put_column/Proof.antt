@@ -1,3 +1,5 @@
+-- `put_column` meets its contract: each turn of the loop puts one word more.
+-- Assumes nothing.
 use borrow.Author.Needs.{needs}
 use Prim.Native.Nat.{ℕ, _≤_, _+_, _-_}
 use native.Mathlib.Omega.{arith}
@@ -8,13 +10,10 @@ use Rattle.desk_open.specs.Opens.{put}
 use Rattle.desk_open.proofs.Puts.{column-none, column-more}
 use Rattle.desk_open.proofs.put_column.Statement.{statement}
 use Rattle.desk_open.proofs.put_column.Tie as tie
-use Rattle.desk_open.proofs.put_column.Reads as reads
-use Rattle.desk_open.proofs.put_column.Lts as lts
--- `put_column` meets its contract: each turn of the loop puts one word more.
--- Assumes nothing.
 
 abbrev Inv-loop : tie.InvT-loop
-Inv-loop desk₀ before column n i₀ desk i = (i ≤ n) × (length desk ≡ length desk₀) × (desk ≡ put (before + 1) (take i (drop 1 column)) desk₀)
+Inv-loop desk₀ before column n i₀ desk i = (i ≤ n) × (length desk ≡ length desk₀) ×
+    (desk ≡ put (before + 1) (take i (drop 1 column)) desk₀)
 
 abbrev μ-loop : tie.MeasureT-loop
 μ-loop desk₀ before column n i₀ desk i = n - i
