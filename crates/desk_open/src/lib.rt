@@ -1,12 +1,16 @@
 // Opening a desk: the rows of an accepted book into a lent run of words.
 ghost use mathlib.Core.Path.{_≡_};
-ghost use Prim.Native.Nat.{_+_, _≤_};
+ghost use Prim.Native.Nat.{ℕ, _+_, _≤_};
+ghost use mathlib.Core.List.{List, [], _∷_};
 ghost use lib.ListN.{length, take, drop, replicate};
 ghost use Rattle.schedule.specs.Limits.{mostRows, rowPlaces};
+ghost use Rattle.schedule.specs.declared.Row.{Row};
+ghost use Rattle.schedule.specs.Rows.{job};
+ghost use Rattle.schedule.specs.Columns.{columns};
 ghost use Rattle.results.specs.Results.{written};
 ghost use Rattle.running.specs.Words.{deskWords};
 ghost use Rattle.outcomes.specs.Planning.{gives};
-ghost use Rattle.desk_open.specs.Opens.{put, openCall};
+ghost use Rattle.desk_open.specs.Opens.{put, openedWords, openCall};
 use readers::Terms;
 use refusals::Tested;
 use running::Layout;
@@ -14,7 +18,7 @@ use schedule::Desk;
 use schedule::Profile;
 
 // What the reader is told: a desk is opened by the ordering rule.
-const ORDERING_RULE: Terms = Terms {
+const DESK_TERMS: Terms = Terms {
     profile: Profile::Ordering,
 };
 
@@ -24,21 +28,24 @@ pub enum OpenAnswer {
     Refused(u32, usize),
 }
 
-// No number yet in any word of a desk.
-fn clear(desk: &mut [u32])
+// The head of a desk that is opened, and no number yet in any other word.
+fn put_head(desk: &mut [u32], count: u32, minute: u32)
     requires { ⌜ deskWords ≤ length (now desk) ⌝ }
-    ensures { λ _. ⌜ now (desk .exit) ≡ written (replicate deskWords 0) (now (desk .entry)) ⌝ }
+    ensures { λ _. ⌜ now (desk .exit) ≡ written (put 0 (count ∷ minute ∷ []) (replicate deskWords 0)) (now (desk .entry)) ⌝ }
 {
     let mut k: usize = 0;
     while k < Layout::WORDS {
         desk[k] = 0;
         k += 1;
     }
+    desk[Layout::COUNT] = count;
+    desk[Layout::MINUTE] = minute;
 }
 
 // The first n rows of a column, into the column of the desk that begins after a place.
 fn put_column(desk: &mut [u32], before: usize, column: &[u32; Desk::PLACES], n: usize)
-    requires { ⌜ (n ≤ mostRows) × (before + mostRows ≤ 1287) × (deskWords ≤ length (now desk)) × (length (now column) ≡ rowPlaces) ⌝ }
+    requires { ⌜ (n ≤ mostRows) × (before + mostRows ≤ 1287) × (deskWords ≤ length (now desk)) ×
+        (length (now column) ≡ rowPlaces) ⌝ }
     ensures { λ _. ⌜ now (desk .exit) ≡ put (before + 1) (take n (drop 1 (now (column .entry)))) (now (desk .entry)) ⌝ }
 {
     let mut i: usize = 0;
@@ -48,11 +55,33 @@ fn put_column(desk: &mut [u32], before: usize, column: &[u32; Desk::PLACES], n: 
     }
 }
 
+// The words of a desk that a day opens: the head, then one column after another. The day has any rows that have these jobs.
+fn put_day<'a>(
+    desk: &mut [u32],
+    free: u32,
+    release: &'a [u32; Desk::PLACES],
+    minutes: &'a [u32; Desk::PLACES],
+    due: &'a [u32; Desk::PLACES],
+    n: usize,
+)
+    requires { ⌜ (n ≤ mostRows) × (deskWords ≤ length (now desk)) ×
+        (length (now release) ≡ rowPlaces) × (length (now minutes) ≡ rowPlaces) × (length (now due) ≡ rowPlaces) ⌝ }
+    ensures { λ _. ⌜ ((rows : List Row) → length rows ≡ n →
+        ((i : ℕ) → 1 ≤ i → i ≤ n →
+        columns (now (release .entry)) (now (minutes .entry)) (now (due .entry)) i ≡ job rows i) →
+        now (desk .exit) ≡ written (openedWords (record { free = free; rows = rows })) (now (desk .entry))) ⌝ }
+{
+    put_head(desk, n as u32, free);
+    put_column(desk, Layout::DUES, due, n);
+    put_column(desk, Layout::LENGTHS, minutes, n);
+    put_column(desk, Layout::RELEASES, release, n);
+}
+
 // Opens a desk with a book.
 pub fn open(book: &[u32], desk: &mut [u32]) -> OpenAnswer
     ensures { λ r. ⌜ gives r (now (desk .exit)) ≡ openCall (now (book .entry)) (now (desk .entry)) ⌝ }
 {
-    let given = readers::read(ORDERING_RULE, book);
+    let given = readers::read(DESK_TERMS, book);
     let outcome = given.outcome;
     if let Tested::Refused(number, place) = outcome {
         return OpenAnswer::Refused(number, place);
@@ -60,12 +89,14 @@ pub fn open(book: &[u32], desk: &mut [u32]) -> OpenAnswer
     if desk.len() < Layout::WORDS {
         return OpenAnswer::Refused(Tested::NARROW, 0);
     }
-    let n = given.count;
-    clear(desk);
-    desk[Layout::COUNT] = n as u32;
-    desk[Layout::MINUTE] = given.free;
-    put_column(desk, Layout::DUES, &given.columns.due, n);
-    put_column(desk, Layout::LENGTHS, &given.columns.length, n);
-    put_column(desk, Layout::RELEASES, &given.columns.release, n);
-    OpenAnswer::Opened(n, given.free)
+    let count = given.count;
+    put_day(
+        desk,
+        given.free,
+        &given.columns.release,
+        &given.columns.length,
+        &given.columns.due,
+        count,
+    );
+    OpenAnswer::Opened(count, given.free)
 }
