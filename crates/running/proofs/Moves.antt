@@ -6,10 +6,10 @@ use native.Mathlib.Decide.{ℕ-discrete}
 use mathlib.Core.Path.{_≡_, refl, sym, ap, _∙_}
 use mathlib.Core.List.{List, _∷_, map}
 use mathlib.Core.Logic.{_⊎_, inl, inr}
-use mathlib.Core.Option.{Option, some}
+use mathlib.Core.Option.{some}
 use lib.ListN.{length, set, length-set}
 use lib.Seq.{getD-set-same, getD-set-other}
-use lib.IntN.{ℤ, subℕ}
+use lib.IntN.{subℕ}
 use borrow.Author.Tests.{eqb-true}
 use Rattle.theory.specs.Jobs.{Job}
 use Rattle.schedule.specs.Limits.{mostRows, longestLength, latestDue, latestStart}
@@ -36,10 +36,17 @@ held-some : (w : ℕ) → 1 ≤ w → worstHeld w ≡ some (lowered w)
 held-some zero h = let z : ⊥ = omega arith in absurd z
 held-some (suc w) h = refl
 
-same-map : {A : Type 0} (f g : ℕ → A) (k n : ℕ) → ((i : ℕ) → k ≤ i → i < k + n → f i ≡ g i) → map f (countFrom k n) ≡ map g (countFrom k n)
+same-map : {A : Type 0} (f g : ℕ → A) (k n : ℕ) → ((i : ℕ) → k ≤ i → i < k + n → f i ≡ g i) →
+    map f (countFrom k n) ≡ map g (countFrom k n)
 unfolding countFrom
 same-map f g k zero h = refl
 same-map f g k (suc n) h = λ x. h k (omega arith) (omega arith) x ∷ same-map f g (suc k) n (λ i a b. h i (omega arith) (omega arith)) x
+
+-- The ranges of the numbers of a start.
+abbrev pub StartFits : List ℕ → ℕ → ℕ → Type 0
+StartFits ws i m =
+    (deskWords ≤ length ws) × (i ≤ mostRows) × (m ≤ latestStart) × (1 ≤ at ws (lengths + i)) × (at ws (lengths + i) ≤ longestLength) ×
+    (at ws (dues + i) ≤ latestDue)
 
 module _ (ws : List ℕ) (desk : IsDesk ws) (i m : ℕ) (passed : startTests (running ws) i m ≡ Passed) where
   abbrev d : Running
@@ -60,17 +67,17 @@ module _ (ws : List ℕ) (desk : IsDesk ws) (i m : ℕ) (passed : startTests (ru
   high : i ≤ countIn ws
   high = omega (arith, may .listed .1, rows-length ws)
 
-  -- What the row's words are, and the ranges of the numbers of the start.
+  -- What the row's words are.
   job-held : jobIn (rowsIn ws) i ≡ jobAt ws i
   job-held = row-held ws i low high
 
   unmarked : at ws (marks + i) ≡ 0
   unmarked = eqb-true _ 0 (sym (left-stands ws (countIn ws) i low high) ∙ may .left)
 
-  pub start-ranges : (i ≤ mostRows) × (m ≤ latestStart) × (1 ≤ minutes) × (minutes ≤ longestLength) × (due ≤ latestDue)
-  start-ranges =
+  pub start-fits : StartFits ws i m
+  start-fits =
       let r = desk .rows i low high in
-      (omega (arith, high, desk .count), may .early, r .1, r .2, r .3)
+      (desk .long, omega (arith, high, desk .count), may .early, r .1, r .2, r .3)
 
   -- The end and the worst lateness, in words.
   pub end-held : m + minutes ≡ endAt d i m
@@ -82,15 +89,15 @@ module _ (ws : List ℕ) (desk : IsDesk ws) (i m : ℕ) (passed : startTests (ru
   pub worst-held : lowered worst ≡ worstAt d i m
   worst-held =
       sym (worse-word (worstIn ws) (m + minutes + 2147483648 - due)) ∙
-      (ap (worse (worstHeld (worstIn ws))) (late-lowered (m + minutes) due (omega (arith, start-ranges))) ∙
+      (ap (worse (worstHeld (worstIn ws))) (late-lowered (m + minutes) due (omega (arith, start-fits))) ∙
       ap (λ (j : Job). worse (worstHeld (worstIn ws)) (subℕ (m + j .length) (j .due))) (sym job-held))
 
   pub worst-raised : worst ≡ raised (worstAt d i m)
   worst-raised = sym (raised-lowered worst) ∙ ap raised worst-held
 
   worst-fits : (worstIn ws ≡ 0) ⊎ ((leastRaised ≤ worstIn ws) × (worstIn ws ≤ mostRaised)) → (leastRaised ≤ worst) × (worst ≤ mostRaised)
-  worst-fits (inl h) = omega (arith, start-ranges)
-  worst-fits (inr h) = omega (arith, start-ranges)
+  worst-fits (inl h) = omega (arith, start-fits)
+  worst-fits (inr h) = omega (arith, start-fits)
 
   -- The words after the start, place by place.
   abbrev end : ℕ
@@ -123,7 +130,7 @@ module _ (ws : List ℕ) (desk : IsDesk ws) (i m : ℕ) (passed : startTests (ru
   mark-new : at new (marks + i) ≡ 1
   mark-new =
       getD-set-same (set (set ws 1 end) 2 w) (marks + i) 1 0
-      (omega (arith, desk .long, start-ranges, length-set (set ws 1 end) 2 w, length-set ws 1 end))
+      (omega (arith, desk .long, start-fits, length-set (set ws 1 end) 2 w, length-set ws 1 end))
 
   count-new : countIn new ≡ countIn ws
   count-new = other 0 (λ e. omega arith) (λ e. omega arith) (λ e. omega arith)
@@ -163,7 +170,7 @@ module _ (ws : List ℕ) (desk : IsDesk ws) (i m : ℕ) (passed : startTests (ru
   new-desk = record {
     long = omega (arith, desk .long, places);
     count = omega (arith, desk .count, count-new);
-    early = omega (arith, minute-new, end-held, start-ranges);
+    early = omega (arith, minute-new, end-held, start-fits);
     worst = inr (omega (arith, worst-new, worst-raised, worst-fits (desk .worst)));
     rows = λ k l h.
         let r = desk .rows k l (omega (arith, count-new)) in
