@@ -1,10 +1,10 @@
 -- The words after a start hold the desk after it.
 -- Assumes nothing.
-use Prim.Native.Nat.{ℕ, zero, suc, _+_, _-_, _≤_, _<_, max}
+use Prim.Native.Nat.{ℕ, zero, suc, _+_, _-_, _≤_, max}
 use native.Mathlib.Omega.{arith}
 use native.Mathlib.Decide.{ℕ-discrete}
 use mathlib.Core.Path.{_≡_, refl, sym, ap, _∙_}
-use mathlib.Core.List.{List, _∷_, map}
+use mathlib.Core.List.{List, map}
 use mathlib.Core.Logic.{_⊎_, inl, inr}
 use mathlib.Core.Option.{some}
 use lib.ListN.{length, set, length-set}
@@ -16,6 +16,8 @@ use Rattle.schedule.specs.Limits.{mostRows, longestLength, latestDue, latestSta
 use Rattle.schedule.specs.Rows.{countFrom, without}
 use Rattle.schedule.specs.Columns.{at}
 use Rattle.schedule.specs.Offset.{raised, lowered}
+use Rattle.schedule.proofs.Numbers.{count-range}
+use Rattle.schedule.proofs.SameJobs.{map-same}
 use Rattle.schedule.proofs.Raised.{late-lowered, max-lowered}
 use Rattle.schedule.proofs.SignedWords.{raised-lowered}
 use Rattle.refusals.specs.declared.Tested.the-variants.{Passed}
@@ -35,12 +37,6 @@ worse-word (suc w) late = sym (max-lowered (suc w) late)
 held-some : (w : ℕ) → 1 ≤ w → worstHeld w ≡ some (lowered w)
 held-some zero h = let z : ⊥ = omega arith in absurd z
 held-some (suc w) h = refl
-
-same-map : {A : Type 0} (f g : ℕ → A) (k n : ℕ) → ((i : ℕ) → k ≤ i → i < k + n → f i ≡ g i) →
-    map f (countFrom k n) ≡ map g (countFrom k n)
-unfolding countFrom
-same-map f g k zero h = refl
-same-map f g k (suc n) h = λ x. h k (omega arith) (omega arith) x ∷ same-map f g (suc k) n (λ i a b. h i (omega arith) (omega arith)) x
 
 -- The ranges of the numbers of a start.
 abbrev pub StartFits : List ℕ → ℕ → ℕ → Type 0
@@ -158,13 +154,16 @@ module _ (ws : List ℕ) (desk : IsDesk ws) (i m : ℕ) (passed : startTests (ru
   rows-new : rowsIn new ≡ rowsIn ws
   rows-new =
       ap (λ (n : ℕ). map (jobAt new) (countFrom 1 n)) count-new ∙
-      same-map (jobAt new) (jobAt ws) 1 (countIn ws) (λ k l h. job-new k (omega (arith, desk .count)))
+      map-same (jobAt new) (jobAt ws) (countFrom 1 (countIn ws))
+      (λ k h. job-new k (omega (arith, count-range 1 (countIn ws) h, desk .count)))
 
   left-new : leftTo new (countIn new) ≡ without i (leftTo ws (countIn ws))
   left-new = ap (leftTo new) count-new ∙ left-without ws new i unmarked mark-new marks-new (countIn ws)
 
   worst-some : worstHeld (at new 2) ≡ some (worstAt d i m)
-  worst-some = ap worstHeld (worst-new ∙ sym worst-raised) ∙ (held-some worst (omega (arith, worst-fits (desk .worst))) ∙ ap some worst-held)
+  worst-some =
+      ap worstHeld (worst-new ∙ sym worst-raised) ∙
+      (held-some worst (omega (arith, worst-fits (desk .worst))) ∙ ap some worst-held)
 
   new-desk : IsDesk new
   new-desk = record {
@@ -181,7 +180,7 @@ module _ (ws : List ℕ) (desk : IsDesk ws) (i m : ℕ) (passed : startTests (ru
         omega (arith, r, release, minutes, due, marks-fit k (r .4));
   }
 
-  -- The words are a desk again, the desk after the start, and no fewer.
+  -- The words hold a desk again, the one after the start, and are as many as before.
   pub moved-held : IsDesk new × (running new ≡ moved d i m) × (length new ≡ length ws)
   moved-held = (
     new-desk,
