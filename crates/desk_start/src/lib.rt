@@ -23,16 +23,14 @@ fn start_tests(desk: &[u32], row: u32, minute: u32) -> Tested
     ensures { λ r. ⌜ r ≡ startTests (running (now (desk .entry))) row minute ⌝ }
 {
     let n = desk[Layout::COUNT];
-    if (row == 0) | (n < row) {
+    if !((1 <= row) & (row <= n)) {
         return Tested::Refused(Tested::UNLISTED, n as usize);
     }
     let i = row as usize;
-    if desk[Layout::MARKS + i] != 0 {
-        return Tested::Refused(Tested::DONE, i);
-    }
+    let done = refusals::refuse_if(desk[Layout::MARKS + i] != 0, Tested::DONE, i);
     let early = (minute < desk[Layout::MINUTE])
         | ((minute < desk[Layout::RELEASES + i]) | (Layout::LATEST_START < minute));
-    refusals::refuse_if(early, Tested::EARLY, 0)
+    refusals::then(done, refusals::refuse_if(early, Tested::EARLY, 0))
 }
 
 // The words of a start that is not turned down.

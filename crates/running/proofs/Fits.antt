@@ -32,7 +32,7 @@ zero-is : (n : ℕ) → n ≡ 0 → T (eqb n 0)
 zero-is n e = rw e tt
 
 -- A number that lies between two others.
-lies : (least most x : ℕ) → T (between least most x) → (least ≤ x) × (x ≤ most)
+pub lies : (least most x : ℕ) → T (between least most x) → (least ≤ x) × (x ≤ most)
 lies least most x t = let p = parts (leb least x) (leb x most) t in (leb→le least x (p .0), leb→le x most (p .1))
 
 between-two : (least most x : ℕ) → (least ≤ x) × (x ≤ most) → T (between least most x)

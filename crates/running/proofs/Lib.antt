@@ -1,1 +1,4 @@
 pub mod Fits
+pub mod Left
+pub mod Starts
+pub mod Moves

@@ -33,7 +33,7 @@ option-id : (o : Option (List ℕ)) → Option·map (map (λ k. k)) o ≡ o
 option-id none = refl
 option-id (some xs) = ap {B = Option (List ℕ)} some (map-id xs)
 
-map-same : {A B : Type 0} (f g : A → B) (xs : List A) → ((x : A) → List·Memᴰ x xs → f x ≡ g x) → map f xs ≡ map g xs
+pub map-same : {A B : Type 0} (f g : A → B) (xs : List A) → ((x : A) → List·Memᴰ x xs → f x ≡ g x) → map f xs ≡ map g xs
 map-same f g [] h = refl
 map-same f g (x ∷ xs) h = λ i. h x (List·Memᴰ·head refl) i ∷ map-same f g xs (λ y m. h y (List·Memᴰ·tail m)) i
 

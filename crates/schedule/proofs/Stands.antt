@@ -1,14 +1,16 @@
--- Whether a number stands among others: none, one more in front, one more behind.
+-- Whether a number stands among others: none, one more in front, one more behind. A number that stands in a list is a member of it.
 -- Assumes nothing.
 use Prim.Native.Nat.{ℕ, _+_, _<_}
 use native.Mathlib.Numerals.{add-one}
-use mathlib.Core.Bool.{false, _||_, or-false, or-assoc}
+use mathlib.Core.Bool.{Bool, true, false, _||_, or-false, or-assoc}
 use mathlib.Core.Path.{_≡_, refl, sym}
-use mathlib.Core.List.{List, [], _∷_, _++_}
+use mathlib.Core.List.{List, [], _∷_, _++_, List·Memᴰ, List·Memᴰ·head, List·Memᴰ·tail}
 use lib.Dec.{eqb}
 use lib.ListN.{length, take, getD}
 use lib.Seq.{take-suc}
+use borrow.Author.Tests.{eqb-true}
 use Rattle.schedule.specs.Rows.{stands}
+use Rattle.schedule.proofs.Tests.{false-is-true}
 
 pub stands-none : (n : ℕ) → stands n [] ≡ false
 unfolding stands
@@ -18,10 +20,19 @@ pub stands-more : (n m : ℕ) (ms : List ℕ) → stands n (m ∷ ms) ≡ (eqb n
 unfolding stands
 stands-more n m ms = refl
 
-stands-behind : (n : ℕ) (ms : List ℕ) (m : ℕ) → stands n (ms ++ (m ∷ [])) ≡ (stands n ms || eqb n m)
+pub stands-behind : (n : ℕ) (ms : List ℕ) (m : ℕ) → stands n (ms ++ (m ∷ [])) ≡ (stands n ms || eqb n m)
 unfolding stands
 stands-behind n [] m = or-false (eqb n m)
 stands-behind n (k ∷ ks) m = rw (stands-behind n ks m) (sym (or-assoc (eqb n k) (stands n ks) (eqb n m)))
 
 pub stands-on : (n : ℕ) (ms : List ℕ) (i : ℕ) → i < length ms → stands n (take (i + 1) ms) ≡ (stands n (take i ms) || eqb n (getD ms i 0))
 stands-on n ms i h = rw (add-one, take-suc ms i 0 h) (stands-behind n (take i ms) (getD ms i 0))
+
+pub stands-mem : (n : ℕ) (ms : List ℕ) → stands n ms ≡ true → List·Memᴰ n ms
+unfolding stands
+stands-mem n [] e = false-is-true e
+stands-mem n (m ∷ ms) e = go (eqb n m) refl e (stands-mem n ms)
+  where
+    go : (b : Bool) → eqb n m ≡ b → (b || stands n ms) ≡ true → (stands n ms ≡ true → List·Memᴰ n ms) → List·Memᴰ n (m ∷ ms)
+    go true q e f = List·Memᴰ·head (eqb-true n m q)
+    go false q e f = List·Memᴰ·tail (f e)

@@ -1,0 +1,189 @@
+-- The words after a start hold the desk after it.
+-- Assumes nothing.
+use Prim.Native.Nat.{ℕ, zero, suc, _+_, _-_, _≤_, max}
+use native.Mathlib.Omega.{arith}
+use native.Mathlib.Decide.{ℕ-discrete}
+use mathlib.Core.Path.{_≡_, refl, sym, ap, _∙_}
+use mathlib.Core.List.{List, map}
+use mathlib.Core.Logic.{_⊎_, inl, inr}
+use mathlib.Core.Option.{some}
+use lib.ListN.{length, set, length-set}
+use lib.Seq.{getD-set-same, getD-set-other}
+use lib.IntN.{subℕ}
+use borrow.Author.Tests.{eqb-true}
+use Rattle.theory.specs.Jobs.{Job}
+use Rattle.schedule.specs.Limits.{mostRows, longestLength, latestDue, latestStart}
+use Rattle.schedule.specs.Rows.{countFrom, without}
+use Rattle.schedule.specs.Columns.{at}
+use Rattle.schedule.specs.Offset.{raised, lowered}
+use Rattle.schedule.proofs.Numbers.{count-range}
+use Rattle.schedule.proofs.SameJobs.{map-same}
+use Rattle.schedule.proofs.Raised.{late-lowered, max-lowered}
+use Rattle.schedule.proofs.SignedWords.{raised-lowered}
+use Rattle.refusals.specs.declared.Tested.the-variants.{Passed}
+use Rattle.running.specs.Running.{Running, jobIn, startTests, worse, endAt, worstAt, moved}
+use Rattle.running.specs.Words.{deskWords, countIn, worstIn, releases, lengths, dues, marks, jobAt, rowsIn, leftTo, worstHeld}
+use Rattle.running.specs.Words.{running, IsDesk, leastRaised, mostRaised, movedWords}
+use Rattle.running.proofs.Fits.{row-held, rows-length}
+use Rattle.running.proofs.Left.{left-stands, left-without}
+use Rattle.running.proofs.Starts.{MayStart, may-start}
+
+-- The worst lateness so far with one more is the larger of two words.
+worse-word : (w late : ℕ) → worse (worstHeld w) (lowered late) ≡ lowered (max w late)
+unfolding worse
+worse-word zero late = let m : late ≡ max 0 late = omega arith in ap lowered m
+worse-word (suc w) late = sym (max-lowered (suc w) late)
+
+held-some : (w : ℕ) → 1 ≤ w → worstHeld w ≡ some (lowered w)
+held-some zero h = let z : ⊥ = omega arith in absurd z
+held-some (suc w) h = refl
+
+-- The ranges of the numbers of a start.
+abbrev pub StartFits : List ℕ → ℕ → ℕ → Type 0
+StartFits ws i m =
+    (deskWords ≤ length ws) × (i ≤ mostRows) × (m ≤ latestStart) × (1 ≤ at ws (lengths + i)) × (at ws (lengths + i) ≤ longestLength) ×
+    (at ws (dues + i) ≤ latestDue)
+
+module _ (ws : List ℕ) (desk : IsDesk ws) (i m : ℕ) (passed : startTests (running ws) i m ≡ Passed) where
+  abbrev d : Running
+  d = running ws
+
+  abbrev minutes : ℕ
+  minutes = at ws (lengths + i)
+
+  abbrev due : ℕ
+  due = at ws (dues + i)
+
+  may : MayStart d i m
+  may = may-start d i m passed
+
+  low : 1 ≤ i
+  low = may .listed .0
+
+  high : i ≤ countIn ws
+  high = omega (arith, may .listed .1, rows-length ws)
+
+  -- What the row's words are.
+  job-held : jobIn (rowsIn ws) i ≡ jobAt ws i
+  job-held = row-held ws i low high
+
+  unmarked : at ws (marks + i) ≡ 0
+  unmarked = eqb-true _ 0 (sym (left-stands ws (countIn ws) i low high) ∙ may .left)
+
+  pub start-fits : StartFits ws i m
+  start-fits =
+      let r = desk .rows i low high in
+      (desk .long, omega (arith, high, desk .count), may .early, r .1, r .2, r .3)
+
+  -- The end and the worst lateness, in words.
+  pub end-held : m + minutes ≡ endAt d i m
+  end-held = ap (λ (j : Job). m + j .length) (sym job-held)
+
+  abbrev worst : ℕ
+  worst = max (worstIn ws) (m + minutes + 2147483648 - due)
+
+  pub worst-held : lowered worst ≡ worstAt d i m
+  worst-held =
+      sym (worse-word (worstIn ws) (m + minutes + 2147483648 - due)) ∙
+      (ap (worse (worstHeld (worstIn ws))) (late-lowered (m + minutes) due (omega (arith, start-fits))) ∙
+      ap (λ (j : Job). worse (worstHeld (worstIn ws)) (subℕ (m + j .length) (j .due))) (sym job-held))
+
+  pub worst-raised : worst ≡ raised (worstAt d i m)
+  worst-raised = sym (raised-lowered worst) ∙ ap raised worst-held
+
+  worst-fits : (worstIn ws ≡ 0) ⊎ ((leastRaised ≤ worstIn ws) × (worstIn ws ≤ mostRaised)) → (leastRaised ≤ worst) × (worst ≤ mostRaised)
+  worst-fits (inl h) = omega (arith, start-fits)
+  worst-fits (inr h) = omega (arith, start-fits)
+
+  -- The words after the start, place by place.
+  abbrev end : ℕ
+  end = endAt d i m
+
+  abbrev w : ℕ
+  w = raised (worstAt d i m)
+
+  abbrev new : List ℕ
+  new = movedWords ws i end w
+
+  places : length new ≡ length ws
+  places = length-set (set (set ws 1 end) 2 w) (marks + i) 1 ∙ (length-set (set ws 1 end) 2 w ∙ length-set ws 1 end)
+
+  other : (p : ℕ) → ¬ (p ≡ 1) → ¬ (p ≡ 2) → ¬ (p ≡ marks + i) → at new p ≡ at ws p
+  other p a b c =
+      getD-set-other (set (set ws 1 end) 2 w) (marks + i) p 1 0 c ∙
+      (getD-set-other (set ws 1 end) 2 p w 0 b ∙ getD-set-other ws 1 p end 0 a)
+
+  minute-new : at new 1 ≡ end
+  minute-new =
+      getD-set-other (set (set ws 1 end) 2 w) (marks + i) 1 1 0 (λ e. omega arith) ∙
+      (getD-set-other (set ws 1 end) 2 1 w 0 (λ e. omega arith) ∙ getD-set-same ws 1 end 0 (omega (arith, desk .long)))
+
+  worst-new : at new 2 ≡ w
+  worst-new =
+      getD-set-other (set (set ws 1 end) 2 w) (marks + i) 2 1 0 (λ e. omega arith) ∙
+      getD-set-same (set ws 1 end) 2 w 0 (omega (arith, desk .long, length-set ws 1 end))
+
+  mark-new : at new (marks + i) ≡ 1
+  mark-new =
+      getD-set-same (set (set ws 1 end) 2 w) (marks + i) 1 0
+      (omega (arith, desk .long, start-fits, length-set (set ws 1 end) 2 w, length-set ws 1 end))
+
+  count-new : countIn new ≡ countIn ws
+  count-new = other 0 (λ e. omega arith) (λ e. omega arith) (λ e. omega arith)
+
+  marks-new : (k : ℕ) → ¬ (k ≡ i) → at new (marks + k) ≡ at ws (marks + k)
+  marks-new k n = other (marks + k) (λ e. omega arith) (λ e. omega arith) (λ e. n (omega arith))
+
+  marks-fit : (k : ℕ) → at ws (marks + k) ≤ 1 → at new (marks + k) ≤ 1
+  marks-fit k h = step (ℕ-discrete k i)
+    where
+      step : Dec (k ≡ i) → at new (marks + k) ≤ 1
+      step (yes e) = rw e (omega (arith, mark-new))
+      step (no n) = omega (arith, marks-new k n)
+
+  column-new : (p : ℕ) → 3 ≤ p → p ≤ marks → at new p ≡ at ws p
+  column-new p a b = other p (λ e. omega arith) (λ e. omega arith) (λ e. omega (arith, low))
+
+  job-new : (k : ℕ) → k ≤ mostRows → jobAt new k ≡ jobAt ws k
+  job-new k h = λ x. record {
+    release = column-new (releases + k) (omega arith) (omega arith) x;
+    length = column-new (lengths + k) (omega arith) (omega arith) x;
+    due = column-new (dues + k) (omega arith) (omega arith) x;
+  }
+
+  rows-new : rowsIn new ≡ rowsIn ws
+  rows-new =
+      ap (λ (n : ℕ). map (jobAt new) (countFrom 1 n)) count-new ∙
+      map-same (jobAt new) (jobAt ws) (countFrom 1 (countIn ws))
+      (λ k h. job-new k (omega (arith, count-range 1 (countIn ws) h, desk .count)))
+
+  left-new : leftTo new (countIn new) ≡ without i (leftTo ws (countIn ws))
+  left-new = ap (leftTo new) count-new ∙ left-without ws new i unmarked mark-new marks-new (countIn ws)
+
+  worst-some : worstHeld (at new 2) ≡ some (worstAt d i m)
+  worst-some =
+      ap worstHeld (worst-new ∙ sym worst-raised) ∙
+      (held-some worst (omega (arith, worst-fits (desk .worst))) ∙ ap some worst-held)
+
+  new-desk : IsDesk new
+  new-desk = record {
+    long = omega (arith, desk .long, places);
+    count = omega (arith, desk .count, count-new);
+    early = omega (arith, minute-new, end-held, start-fits);
+    worst = inr (omega (arith, worst-new, worst-raised, worst-fits (desk .worst)));
+    rows = λ k l h.
+        let r = desk .rows k l (omega (arith, count-new)) in
+        let few : k ≤ mostRows = omega (arith, count-new, desk .count) in
+        let release = column-new (releases + k) (omega arith) (omega arith) in
+        let minutes = column-new (lengths + k) (omega arith) (omega arith) in
+        let due = column-new (dues + k) (omega arith) (omega arith) in
+        omega (arith, r, release, minutes, due, marks-fit k (r .4));
+  }
+
+  -- The words hold a desk again, the one after the start, and are as many as before.
+  pub moved-held : IsDesk new × (running new ≡ moved d i m) × (length new ≡ length ws)
+  moved-held = (
+    new-desk,
+    λ x. record { rows = rows-new x; left = left-new x; minute = minute-new x; worst = worst-some x },
+    places,
+  )
