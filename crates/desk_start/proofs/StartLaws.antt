@@ -13,7 +13,7 @@ use Rattle.schedule.proofs.Tests.{is-true}
 use Rattle.refusals.specs.declared.Tested.the-variants.{Passed, Refused}
 use Rattle.refusals.specs.Refusals.{byRange, byUnlisted, byDone, byEarly}
 use Rattle.refusals.specs.Tests.{refuseIf, _then_}
-use Rattle.calls.specs.Planning.{gives}
+use Rattle.outcomes.specs.Planning.{gives}
 use Rattle.running.specs.Running.{between, startTests}
 use Rattle.running.specs.Words.{countIn, minuteIn, worstIn, releases, lengths, dues, marks, running, isDesk, IsDesk, movedWords}
 use Rattle.running.proofs.Fits.{lies, desk-says, row-held, rows-length}

@@ -10,7 +10,7 @@ use Rattle.schedule.specs.Columns.{at}
 use Rattle.schedule.specs.Offset.{lowered}
 use Rattle.schedule.proofs.SignedWords.{lowered-word}
 use Rattle.refusals.specs.declared.Tested.the-variants.{Passed}
-use Rattle.calls.specs.Planning.{gives}
+use Rattle.outcomes.specs.Planning.{gives}
 use Rattle.running.specs.Running.{startTests}
 use Rattle.running.specs.Words.{lengths, running, isDesk, movedWords}
 use Rattle.running.proofs.Fits.{desk-says}
