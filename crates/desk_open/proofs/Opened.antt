@@ -87,7 +87,7 @@ module _ (day : Day) (few : length (day .rows) ≤ mostRows) where
   pub releases-room : releases + 1 + length (map releaseOf rows) ≤ length (withLengths day)
   releases-room = omega (arith, lengths-long, sized releaseOf)
 
-  opened-long : length (openedWords day) ≡ deskWords
+  pub opened-long : length (openedWords day) ≡ deskWords
   unfolding openedWords
   opened-long = put-length (releases + 1) (map releaseOf rows) (withLengths day) releases-room ∙ lengths-long
 

@@ -27,7 +27,7 @@ pub record Kept (b : List ℕ) (o : Outcome Said) : Type 0 where
 pub kept-no : {n p : ℕ} {b : List ℕ} → Kept b (gives (saidNo n p) b)
 kept-no = record { refused = λ h. refl; same-length = refl }
 
-kept-yes : (said : Said) (ws b : List ℕ) → said .number ≡ 0 → length ws ≤ length b → Kept b (gives said (written ws b))
+pub kept-yes : (said : Said) (ws b : List ℕ) → said .number ≡ 0 → length ws ≤ length b → Kept b (gives said (written ws b))
 unfolding written
 kept-yes said ws b e h = record {
   refused = λ l. let z : ⊥ = omega arith in absurd z;

@@ -11,7 +11,7 @@ use Rattle.grammar.specs.Words.{Wrong, cut, kind, range, twice, full, count, ta
 use Rattle.promises.specs.Table.{BookRefused, by-word, disorder, crossed, Turned, by-book, by-call}
 use Rattle.promises.specs.Promise.{InTable}
 
-wrong-numbered : {book : List ℕ} {n p : ℕ} → Wrong book n p → (1 ≤ n) × (n ≤ 7)
+pub wrong-numbered : {book : List ℕ} {n p : ℕ} → Wrong book n p → (1 ≤ n) × (n ≤ 7)
 wrong-numbered (cut d) = (omega arith, omega arith)
 wrong-numbered (kind p d l w) = (omega arith, omega arith)
 wrong-numbered (range p d l w) = (omega arith, omega arith)

@@ -35,7 +35,7 @@ zero-is n e = rw e tt
 pub lies : (least most x : ℕ) → T (between least most x) → (least ≤ x) × (x ≤ most)
 lies least most x t = let p = parts (leb least x) (leb x most) t in (leb→le least x (p .0), leb→le x most (p .1))
 
-between-two : (least most x : ℕ) → (least ≤ x) × (x ≤ most) → T (between least most x)
+pub between-two : (least most x : ℕ) → (least ≤ x) × (x ≤ most) → T (between least most x)
 between-two least most x h = both (leb least x) (leb x most) (le→leb least x (h .0)) (le→leb x most (h .1))
 
 module _ (before least most : ℕ) (ws : List ℕ) where

@@ -1,0 +1,188 @@
+-- Histories: what a desk holds after calls, one after another.
+-- Assumes nothing.
+use Prim.Native.Nat.{ℕ, zero, suc, _+_, _*_, _≤_, _<_}
+use native.Mathlib.Omega.{arith}
+use mathlib.Core.Bool.{Bool, true, false, cond}
+use mathlib.Core.Path.{_≡_, refl, sym, ap, _∙_, subst}
+use mathlib.Core.List.{List, [], _∷_, _++_, map, append-nil, append-assoc, List·Memᴰ}
+use lib.Dec.{eqb}
+use lib.ListN.{length}
+use borrow.Author.Tests.{eqb-true, eqb-false, ne-eqb}
+use Rattle.schedule.specs.Limits.{mostRows, latestDeskEnd, longestLength}
+use Rattle.schedule.specs.declared.Profile.the-variants.{Ordering}
+use Rattle.schedule.specs.Offset.{raised}
+use Rattle.schedule.specs.Rows.{Day, rowNumbers, without}
+use Rattle.schedule.proofs.Numbers.{length-count}
+use Rattle.schedule.proofs.Orders.{length-without}
+use Rattle.schedule.proofs.Stands.{stands-mem}
+use Rattle.schedule.proofs.Tests.{false-is-true}
+use Rattle.refusals.specs.declared.Tested.the-variants as tested
+use Rattle.refusals.specs.Refusals.{byRange}
+use Rattle.readers.specs.Accepted.{AcceptedDay}
+use Rattle.outcomes.specs.Planning.{gives}
+use Rattle.running.specs.Running.{Running, opened, startTests, endAt, worstAt, moved}
+use Rattle.running.specs.Words.{running, isDesk, IsDesk, movedWords}
+use Rattle.running.proofs.Fits.{desk-says}
+use Rattle.running.proofs.Starts.{may-start}
+use Rattle.running.proofs.Moves.{moved-held}
+use Rattle.desk_start.specs.declared.StartAnswer.the-variants as start-answer
+use Rattle.desk_start.specs.Starts.{startOutcome, startCall}
+use Rattle.open_desk.specs.Answers.{saidStart}
+use Rattle.open_desk.specs.History.{deskStart, Call, starts, lists, orders, afterCall, after, Start, withStart, withCall}
+use Rattle.open_desk.specs.History.{acceptedStarts, asCall, standing}
+use Rattle.open_desk.proofs.Standing.{at-first, one-more}
+use Rattle.open_desk.proofs.Starts.{Found, refuses, passes, found}
+
+-- A start by what its tests have found.
+module _ (ws : List ℕ) (i m : ℕ) where
+  pub start-none : isDesk ws ≡ false → startCall ws i m ≡ gives (start-answer.Refused byRange 0) ws
+  unfolding startCall
+  start-none e = rw (e, startCall)
+
+  pub start-no : isDesk ws ≡ true → (n p : ℕ) → startTests (running ws) i m ≡ tested.Refused n p →
+      startCall ws i m ≡ gives (start-answer.Refused n p) ws
+  unfolding startCall startOutcome
+  start-no desk n p e = rw (desk, startCall, e, startOutcome)
+
+  pub start-yes : isDesk ws ≡ true → startTests (running ws) i m ≡ tested.Passed →
+      startCall ws i m ≡ gives (start-answer.Moved (endAt (running ws) i m) (worstAt (running ws) i m))
+      (movedWords ws i (endAt (running ws) i m) (raised (worstAt (running ws) i m)))
+  unfolding startCall startOutcome
+  start-yes desk e = rw (desk, startCall, e, startOutcome)
+
+  -- A refused start leaves the desk as it is.
+  pub start-kept : 1 ≤ deskStart ws i m .answer .number → deskStart ws i m .buffer ≡ ws
+  start-kept h = step (isDesk ws) refl (found (running ws) i m)
+    where
+      step : (b : Bool) → isDesk ws ≡ b → Found (running ws) i m → deskStart ws i m .buffer ≡ ws
+      step false e f = ap (λ o. o .buffer) (start-none e)
+      step true e (refuses n p l t u only) = ap (λ o. o .buffer) (start-no e n p t)
+      step true e (passes t never) =
+          let zero = ap (λ o. saidStart (o .answer) .number) (start-yes e t) in
+          let z : ⊥ = omega (arith, h, zero) in
+          absurd z
+
+positive : (n : ℕ) → (n ≡ 0 → ⊥) → 1 ≤ n
+positive zero f = absurd (f refl)
+positive (suc n) f = omega arith
+
+-- The desk after the accepted starts alone is the desk after all calls.
+pub alone : (ws : List ℕ) (calls : List Call) → after ws (map asCall (acceptedStarts ws calls)) ≡ after ws calls
+unfolding after acceptedStarts
+alone ws [] = refl
+alone ws (starts i m ∷ cs) = step (eqb (deskStart ws i m .answer .number) 0) refl (alone (deskStart ws i m .buffer) cs)
+  where
+    rest : List Start
+    rest = acceptedStarts (deskStart ws i m .buffer) cs
+
+    step : (b : Bool) → eqb (deskStart ws i m .answer .number) 0 ≡ b → after (deskStart ws i m .buffer) (map asCall rest) ≡ after (deskStart ws i m .buffer) cs →
+        after ws (map asCall (withStart (deskStart ws i m .answer .number) (record { row = i; minute = m }) rest)) ≡ after (deskStart ws i m .buffer) cs
+    step true e later = rw e later
+    step false e later =
+        let refused = eqb-false (deskStart ws i m .answer .number) 0 e in
+        let kept = start-kept ws i m (positive (deskStart ws i m .answer .number) refused) in
+        rw e (ap (λ (v : List ℕ). after v (map asCall rest)) (sym kept) ∙ later)
+alone ws (lists b ∷ cs) = alone ws cs
+alone ws (orders k b ∷ cs) = alone ws cs
+
+-- What holds of a desk's words after starts on a day's desk.
+pub record State (day : Day) (done : List Start) (ws : List ℕ) : Type 0 where
+  pub desk : IsDesk ws
+  pub held : running ws ≡ standing day done
+  pub few : length (standing day done .left) ≤ mostRows
+  pub room : standing day done .minute + longestLength * length (standing day done .left) ≤ latestDeskEnd
+
+module _ (day : Day) where
+  pub first : AcceptedDay Ordering day → (ws : List ℕ) → IsDesk ws → running ws ≡ opened day → State day [] ws
+  first a ws desk held = record {
+    desk = desk;
+    held = held ∙ sym (at-first day);
+    few = omega (arith, count, a .few-rows);
+    room = omega (arith, count, minute, a .few-rows, a .early);
+  }
+    where
+      count : length (standing day [] .left) ≡ length (day .rows)
+      count = ap (λ (d : Running). length (d .left)) (at-first day) ∙ length-count 1 (length (day .rows))
+
+      minute : standing day [] .minute ≡ day .free
+      minute = ap (λ (d : Running). d .minute) (at-first day)
+
+  module _ (done : List Start) (ws : List ℕ) (s : State day done ws) where
+    -- One start more.
+    module _ (i m : ℕ) where
+      abbrev next : Start
+      next = record { row = i; minute = m }
+
+      module _ (passed : startTests (running ws) i m ≡ tested.Passed) where
+        abbrev new : List ℕ
+        new = movedWords ws i (endAt (running ws) i m) (raised (worstAt (running ws) i m))
+
+        held : running new ≡ standing day (done ++ (next ∷ []))
+        held =
+            moved-held ws (s .desk) i m passed .1 ∙
+            (ap (λ (d : Running). moved d i m) (s .held) ∙ sym (one-more day done i m))
+
+        -- One row fewer is left, and the desk stands at 20,030,000 at the latest.
+        fewer : suc (length (standing day (done ++ (next ∷ [])) .left)) ≡ length (standing day done .left)
+        fewer =
+            let may = may-start (running ws) i m passed in
+            let there = subst (λ (d : Running). List·Memᴰ i (d .left)) (s .held) (stands-mem i (running ws .left) (may .left)) in
+            ap (λ (d : Running). suc (length (d .left))) (one-more day done i m) ∙ sym (length-without i (standing day done .left) there)
+
+        pub moves : State day (done ++ (next ∷ [])) new
+        moves =
+            let new-desk = moved-held ws (s .desk) i m passed .0 in
+            let minute = ap (λ (d : Running). d .minute) held in
+            record {
+              desk = new-desk;
+              held = held;
+              few = omega (arith, fewer, s .few);
+              room = omega (arith, fewer, s .few, new-desk .early, minute);
+            }
+
+    -- A call leaves the desk as it is, or is an accepted start. `more` is the start, or none.
+    record Taken (c : Call) : Type 0 where
+      more : List Start
+      state : State day (done ++ more) (afterCall ws c)
+      counted : (rest : List Start) → withCall ws c rest ≡ more ++ rest
+
+    untouched : (c : Call) → afterCall ws c ≡ ws → ((rest : List Start) → withCall ws c rest ≡ rest) → Taken c
+    untouched c e f = record {
+      more = [];
+      state = subst (State day (done ++ [])) (sym e) (subst (λ ds. State day ds ws) (sym (append-nil done)) s);
+      counted = f;
+    }
+
+    taken : (c : Call) → Taken c
+    taken (lists b) = untouched (lists b) refl (λ rest. refl)
+    taken (orders k b) = untouched (orders k b) refl (λ rest. refl)
+    taken (starts i m) = step (found (running ws) i m)
+      where
+        desk : isDesk ws ≡ true
+        desk = desk-says ws .1 (s .desk)
+
+        step : Found (running ws) i m → Taken (starts i m)
+        step (refuses n p l t u only) =
+            let e = start-no ws i m desk n p t in
+            untouched (starts i m) (ap (λ o. o .buffer) e)
+            (λ rest. ap (λ o. withStart (saidStart (o .answer) .number) (next i m) rest) e ∙
+            rw (ne-eqb n 0 (λ z. omega arith)))
+        step (passes t never) =
+            let e = start-yes ws i m desk t in
+            record {
+              more = next i m ∷ [];
+              state = subst (State day (done ++ (next i m ∷ []))) (sym (ap (λ o. o .buffer) e)) (moves i m t);
+              counted = λ rest. ap (λ o. withStart (saidStart (o .answer) .number) (next i m) rest) e;
+            }
+
+  -- After any calls the desk stands as the accepted ones among their starts have moved it.
+  pub leaves : (done : List Start) (ws : List ℕ) → State day done ws → (calls : List Call) →
+      State day (done ++ acceptedStarts ws calls) (after ws calls)
+  unfolding after acceptedStarts
+  leaves done ws s [] = subst (λ ds. State day ds ws) (sym (append-nil done)) s
+  leaves done ws s (c ∷ cs) =
+      let t = taken done ws s c in
+      let rest = acceptedStarts (afterCall ws c) cs in
+      subst (λ ds. State day ds (after (afterCall ws c) cs))
+      (append-assoc done (t .more) rest ∙ ap (λ ds. done ++ ds) (sym (t .counted rest)))
+      (leaves (done ++ t .more) (afterCall ws c) (t .state) cs)

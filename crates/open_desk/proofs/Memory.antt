@@ -1,0 +1,134 @@
+-- Property 1 of the open desk's calls: what becomes of the lent words, and the numbers that refusals tell.
+-- Assumes nothing.
+use Prim.Native.Nat.{ℕ, zero, suc, _+_, _*_, _≤_, _<_}
+use native.Mathlib.Omega.{arith}
+use native.Mathlib.Decide.{decLe}
+use mathlib.Core.Bool.{Bool, true, false}
+use mathlib.Core.Path.{_≡_, refl, sym, ap, _∙_, subst}
+use mathlib.Core.List.{List, [], _∷_, _++_}
+use mathlib.Core.Logic.{_⊎_, inl, inr}
+use lib.ListN.{length, drop, getD, set, length-set}
+use lib.Seq.{getD-set-other, drop-append-seam}
+use Rattle.schedule.specs.declared.Profile.{Profile}
+use Rattle.schedule.specs.declared.Profile.the-variants.{Ordering, FirstCome}
+use Rattle.schedule.specs.Offset.{raised}
+use Rattle.schedule.specs.Rows.{Day}
+use Rattle.refusals.specs.Refusals.{byNarrow, byRange}
+use Rattle.book.specs.Rows.{Contents, refused, accepted}
+use Rattle.readers.specs.Reads.{readBy}
+use Rattle.readers.proofs.Accepted.{accepted-day}
+use Rattle.results.specs.Results.{written}
+use Rattle.outcomes.specs.Planning.{Outcome, gives}
+use Rattle.calls.specs.Answers.{Said, saidNo}
+use Rattle.promises.specs.Vocabulary.{told}
+use Rattle.promises.specs.Table.{BookRefused, by-word, disorder, crossed}
+use Rattle.promises.proofs.Accepted.{book-refused}
+use Rattle.promises.proofs.Numbers.{wrong-numbered}
+use Rattle.running.specs.Running.{Running, endAt, worstAt}
+use Rattle.running.specs.Words.{deskWords, running, marks, isDesk, IsDesk, movedWords}
+use Rattle.desk_open.specs.Opens.{openedWords, deskTerms, openCall}
+use Rattle.desk_open.proofs.Opened.{opened-held, opened-long}
+use Rattle.open_desk.specs.Answers.{saidOpen, saidStart}
+use Rattle.open_desk.specs.History.{deskOpen, deskStart}
+use Rattle.open_desk.specs.Table.{OpenTurned, narrow, StartTurned, unlisted, done, early}
+use Rattle.open_desk.specs.Promise.{Lent}
+use Rattle.open_desk.proofs.Starts.{Found, refuses, passes, found}
+use Rattle.open_desk.proofs.Histories.{start-none, start-no, start-yes}
+use Rattle.open_desk.proofs.Refused.{open-no, open-short, open-yes, open-turned}
+
+-- A call that is refused, and one that is not.
+lent-no : {Numbers : ℕ → Type 0} (n p : ℕ) (lent : List ℕ) → Numbers n → Lent Numbers lent (gives (saidNo n p) lent)
+lent-no n p lent h = record { number = λ l. h; kept = λ l. refl; same-length = refl }
+
+lent-yes : {Numbers : ℕ → Type 0} (said : Said) (lent new : List ℕ) → said .number ≡ 0 → length new ≡ length lent →
+    Lent Numbers lent (gives said new)
+lent-yes said lent new e h = record {
+  number = λ l. let z : ⊥ = omega arith in absurd z;
+  kept = λ l. let z : ⊥ = omega arith in absurd z;
+  same-length = h;
+}
+
+-- # Opening
+-- A book that is refused by the ordering rule tells 1 to 8.
+not-first-come : Ordering ≡ FirstCome → ⊥
+not-first-come e = subst Is e tt
+  where
+    Is : Profile → Type 0
+    Is Ordering = Unit {0}
+    Is FirstCome = ⊥
+
+book-numbers : {book : List ℕ} {n p : ℕ} → BookRefused Ordering book n p → (1 ≤ n) × (n ≤ 9)
+book-numbers (by-word n p f) = let h = wrong-numbered (f .wrong) in (h .0, omega (arith, h .1))
+book-numbers (disorder e day t k c) = (omega arith, omega arith)
+book-numbers (crossed e day t k c) = absurd (not-first-come e)
+
+module _ (book ws : List ℕ) where
+  -- A refused opening leaves the words; another writes those of a desk, and leaves the words after them.
+  abbrev Kept : Outcome Said → Type 0
+  Kept o = Lent (λ n. (1 ≤ n) × (n ≤ 9)) ws o × (drop deskWords (o .buffer) ≡ drop deskWords ws)
+
+  written-past : (day : Day) → readBy deskTerms book ≡ accepted day → drop deskWords (written (openedWords day) ws) ≡ drop deskWords ws
+  unfolding written
+  written-past day e =
+      let long = opened-long day (accepted-day deskTerms book day e .few-rows) in
+      ap (λ (n : ℕ). drop n (openedWords day ++ drop (length (openedWords day)) ws)) (sym long) ∙
+      (drop-append-seam (openedWords day) (drop (length (openedWords day)) ws) ∙ ap (λ (n : ℕ). drop n ws) long)
+
+  pub open-kept : Kept (deskOpen book ws)
+  open-kept = step (readBy deskTerms book) refl
+    where
+      room : (day : Day) → readBy deskTerms book ≡ accepted day → Dec (deskWords ≤ length ws) → Kept (deskOpen book ws)
+      room day e (yes h) =
+          subst Kept (sym (ap (told saidOpen) (open-yes book ws day e h)))
+          (
+            lent-yes _ ws (written (openedWords day) ws) refl (opened-held day ws (accepted-day deskTerms book day e) h .2),
+            written-past day e,
+          )
+      room day e (no h) =
+          subst Kept (sym (ap (told saidOpen) (open-short book ws day e (omega arith))))
+          (lent-no byNarrow 0 ws (omega arith, omega arith), refl)
+
+      step : (x : Contents) → readBy deskTerms book ≡ x → Kept (deskOpen book ws)
+      step (refused n p) e =
+          subst Kept (sym (ap (told saidOpen) (open-no book ws n p e)))
+          (lent-no n p ws (book-numbers (book-refused deskTerms book n p .0 e)), refl)
+      step (accepted day) e = room day e (decLe deskWords (length ws))
+
+-- # A start
+abbrev StartNumbers : ℕ → Type 0
+StartNumbers n = (n ≡ 3) ⊎ (n ≡ 11) ⊎ (n ≡ 14) ⊎ (n ≡ 15)
+
+start-numbers : {d : Running} {i m : ℕ} (n p : ℕ) → StartTurned d i m n p → StartNumbers n
+start-numbers _ _ (unlisted h) = inr (inl refl)
+start-numbers _ _ (done l h f) = inr (inr (inl refl))
+start-numbers _ _ (early l h f t) = inr (inr (inr refl))
+
+module _ (ws : List ℕ) (i m : ℕ) where
+  -- A start writes three words, if any.
+  abbrev Writes : Outcome Said → Type 0
+  Writes o = Lent StartNumbers ws o ×
+      ((place : ℕ) → ¬ (place ≡ 1) → ¬ (place ≡ 2) → ¬ (place ≡ marks + i) → getD (o .buffer) place 0 ≡ getD ws place 0)
+
+  moved-length : (end worst : ℕ) → length (movedWords ws i end worst) ≡ length ws
+  moved-length end worst =
+      length-set (set (set ws 1 end) 2 worst) (marks + i) 1 ∙ (length-set (set ws 1 end) 2 worst ∙ length-set ws 1 end)
+
+  moved-other : (end worst place : ℕ) → ¬ (place ≡ 1) → ¬ (place ≡ 2) → ¬ (place ≡ marks + i) →
+      getD (movedWords ws i end worst) place 0 ≡ getD ws place 0
+  moved-other end worst place f g h =
+      getD-set-other (set (set ws 1 end) 2 worst) (marks + i) place 1 0 h ∙
+      (getD-set-other (set ws 1 end) 2 place worst 0 g ∙ getD-set-other ws 1 place end 0 f)
+
+  pub start-writes : Writes (deskStart ws i m)
+  start-writes = step (isDesk ws) refl (found (running ws) i m)
+    where
+      step : (b : Bool) → isDesk ws ≡ b → Found (running ws) i m → Writes (deskStart ws i m)
+      step false e f =
+          subst Writes (sym (ap (told saidStart) (start-none ws i m e))) (lent-no byRange 0 ws (inl refl), λ place f g h. refl)
+      step true e (refuses n p l t u only) =
+          subst Writes (sym (ap (told saidStart) (start-no ws i m e n p t))) (lent-no n p ws (start-numbers n p u), λ place f g h. refl)
+      step true e (passes t never) =
+          let end = endAt (running ws) i m in
+          let worst = raised (worstAt (running ws) i m) in
+          subst Writes (sym (ap (told saidStart) (start-yes ws i m e t)))
+          (lent-yes _ ws (movedWords ws i end worst) refl (moved-length end worst), moved-other end worst)

@@ -1,0 +1,217 @@
+-- Each call of an open desk is refused exactly as the table says.
+-- Assumes nothing.
+use Prim.Native.Nat.{ℕ, zero, suc, _+_, _*_, _≤_, _<_}
+use native.Mathlib.Omega.{arith}
+use native.Mathlib.Decide.{decLe}
+use mathlib.Core.Bool.{Bool, true, false, _&&_}
+use mathlib.Core.Path.{_≡_, refl, sym, ap, _∙_, subst}
+use mathlib.Core.List.{List, [], _∷_}
+use mathlib.Core.Logic.{_↔_}
+use mathlib.Core.Option.{none}
+use lib.Dec.{T}
+use lib.ListN.{length}
+use borrow.Author.Tests.{lt-ltb, le-ltb}
+use Rattle.schedule.specs.Limits.{latestDeskEnd, longestLength}
+use Rattle.schedule.specs.declared.Profile.the-variants.{Ordering}
+use Rattle.schedule.specs.Cover.{Agreeing}
+use Rattle.schedule.specs.Desk.{Pair}
+use Rattle.schedule.specs.Rows.{Day}
+use Rattle.schedule.proofs.Tests.{false-is-true, is-true, parts, both}
+use Rattle.refusals.specs.declared.Tested.the-variants as tested
+use Rattle.refusals.specs.Refusals.{byRange, byNarrow, byUnlisted}
+use Rattle.book.specs.Rows.{refused, accepted}
+use Rattle.readers.specs.Reads.{readBy}
+use Rattle.results.specs.Results.{written}
+use Rattle.outcomes.specs.Planning.{Outcome, gives, nth, Planning}
+use Rattle.outcomes.specs.Outcomes.{listOutcome, planOutcome}
+use Rattle.outcomes.specs.declared.ListAnswer.the-variants as list-answer
+use Rattle.outcomes.specs.declared.OrderAnswer.the-variants as order-answer
+use Rattle.outcomes.proofs.OutcomeLaws.{plan-unlisted}
+use Rattle.outcomes.proofs.Plans.{nth-zero, nth-out}
+use Rattle.outcomes.proofs.Sound.{Sound}
+use Rattle.calls.specs.Answers.{Said, saidNo, saidList, saidOrder}
+use Rattle.promises.specs.Vocabulary.{Refuses}
+use Rattle.promises.specs.Table.{Turned, ListTurned, PlanTurned}
+use Rattle.promises.specs.Table as table
+use Rattle.promises.proofs.Refused.{says-no, says-yes, turned, list-turned, plan-turned}
+use Rattle.running.specs.Running.{Running, jobIn, startTests}
+use Rattle.running.specs.Words.{deskWords, running, isDesk, IsDesk}
+use Rattle.running.proofs.Fits.{desk-says}
+use Rattle.rows_left.specs.Left.{canPlan, plansHere}
+use Rattle.desk_open.specs.declared.OpenAnswer.the-variants as open-answer
+use Rattle.desk_open.specs.Opens.{openedWords, deskTerms, openCall}
+use Rattle.desk_plans.specs.Plans.{plansFrom, planningLeft, listCall, planCall}
+use Rattle.open_desk.specs.Answers.{saidOpen, saidStart}
+use Rattle.open_desk.specs.History.{deskOpen, deskStart, deskList, deskPlan}
+use Rattle.open_desk.specs.Table.{OpenTurned, narrow, StartTurned, CanPlan, DeskTurned, no-desk, by-call}
+use Rattle.open_desk.proofs.Starts.{Found, refuses, passes, found}
+use Rattle.open_desk.proofs.Histories.{start-none, start-no, start-yes}
+
+true-is : (b : Bool) → T b → b ≡ true
+true-is true h = refl
+true-is false h = absurd h
+
+nth-none : (k : ℕ) → nth {A = Pair} [] k ≡ none
+nth-none zero = nth-zero []
+nth-none (suc k) = nth-out [] (suc k) (omega arith)
+
+-- # Opening
+module _ (book ws : List ℕ) where
+  pub open-no : (n p : ℕ) → readBy deskTerms book ≡ refused n p → openCall book ws ≡ gives (open-answer.Refused n p) ws
+  unfolding openCall
+  open-no n p e = rw (e, openCall)
+
+  module _ (day : Day) (e : readBy deskTerms book ≡ accepted day) where
+    pub open-short : length ws < deskWords → openCall book ws ≡ gives (open-answer.Refused byNarrow 0) ws
+    unfolding openCall
+    open-short h = rw (e, openCall, lt-ltb (length ws) deskWords h)
+
+    pub open-yes : deskWords ≤ length ws →
+        openCall book ws ≡ gives (open-answer.Opened (length (day .rows)) (day .free)) (written (openedWords day) ws)
+    unfolding openCall
+    open-yes h = rw (e, openCall, le-ltb (length ws) deskWords h)
+
+    open-own : (n p : ℕ) → Refuses (deskOpen book ws .answer) n p ↔ OpenTurned ws n p
+    open-own = step (decLe deskWords (length ws))
+      where
+        only : (n p : ℕ) → OpenTurned ws n p → (byNarrow ≡ n) × (0 ≡ p)
+        only _ _ (narrow h) = (refl, refl)
+
+        wide : deskWords ≤ length ws → (n p : ℕ) → ¬ OpenTurned ws n p
+        wide h _ _ (narrow l) = omega arith
+
+        step : Dec (deskWords ≤ length ws) → (n p : ℕ) → Refuses (deskOpen book ws .answer) n p ↔ OpenTurned ws n p
+        step (yes h) = says-yes (deskOpen book ws .answer) (OpenTurned ws) (ap (λ o. saidOpen (o .answer) .number) (open-yes h)) (wide h)
+        step (no h) =
+            let short : length ws < deskWords = omega arith in
+            says-no (deskOpen book ws .answer) (OpenTurned ws) byNarrow 0 (omega arith) (ap (λ o. saidOpen (o .answer)) (open-short short))
+            (narrow short) only
+
+  pub open-turned : (n p : ℕ) → Refuses (deskOpen book ws .answer) n p ↔ Turned Ordering book (λ day. OpenTurned ws) n p
+  open-turned = turned deskTerms book (λ day. OpenTurned ws) (deskOpen book ws .answer)
+      (λ n p e. ap (λ o. saidOpen (o .answer)) (open-no n p e)) open-own
+
+-- # Calls on lent words: these are no desk that the call can work on, or they are, and the call is refused by a condition of its own.
+module _ (said : Said) (Here : Type 0) (Own : (n p : ℕ) → Type 0) where
+  pub not-here : ¬ Here → said ≡ saidNo byRange 0 → (n p : ℕ) → Refuses said n p ↔ DeskTurned Here Own n p
+  not-here away e = says-no said (DeskTurned Here Own) byRange 0 (omega arith) e (no-desk away) only
+    where
+      only : (n p : ℕ) → DeskTurned Here Own n p → (byRange ≡ n) × (0 ≡ p)
+      only _ _ (no-desk f) = (refl, refl)
+      only _ _ (by-call n p here own) = absurd (away here)
+
+  pub is-here : Here → ((n p : ℕ) → Refuses said n p ↔ Own n p) → (n p : ℕ) → Refuses said n p ↔ DeskTurned Here Own n p
+  is-here here own n p = (λ h. by-call n p here (own n p .0 h), back n p)
+    where
+      back : (n p : ℕ) → DeskTurned Here Own n p → Refuses said n p
+      back _ _ (no-desk f) = absurd (f here)
+      back _ _ (by-call n p h o) = own n p .1 o
+
+-- # A start
+module _ (ws : List ℕ) (i m : ℕ) where
+  pub start-own : isDesk ws ≡ true → (n p : ℕ) → Refuses (deskStart ws i m .answer) n p ↔ StartTurned (running ws) i m n p
+  start-own e = step (found (running ws) i m)
+    where
+      step : Found (running ws) i m → (n p : ℕ) → Refuses (deskStart ws i m .answer) n p ↔ StartTurned (running ws) i m n p
+      step (refuses n p l t u only) =
+          says-no (deskStart ws i m .answer) (StartTurned (running ws) i m) n p l (ap (λ o. saidStart (o .answer)) (start-no ws i m e n p t))
+          u only
+      step (passes t never) =
+          says-yes (deskStart ws i m .answer) (StartTurned (running ws) i m)
+          (ap (λ o. saidStart (o .answer) .number) (start-yes ws i m e t)) never
+
+  pub start-turned : (n p : ℕ) → Refuses (deskStart ws i m .answer) n p ↔ DeskTurned (IsDesk ws) (StartTurned (running ws) i m) n p
+  start-turned = step (isDesk ws) refl
+    where
+      step : (b : Bool) → isDesk ws ≡ b → (n p : ℕ) →
+          Refuses (deskStart ws i m .answer) n p ↔ DeskTurned (IsDesk ws) (StartTurned (running ws) i m) n p
+      step false e = not-here (deskStart ws i m .answer) (IsDesk ws) (StartTurned (running ws) i m)
+          (λ d. false-is-true (sym e ∙ desk-says ws .1 d)) (ap (λ o. saidStart (o .answer)) (start-none ws i m e))
+      step true e = is-here (deskStart ws i m .answer) (IsDesk ws) (StartTurned (running ws) i m) (desk-says ws .0 e) (start-own e)
+
+-- # The list and an order
+-- What the code tests of the rows left is what the table says, and where a row is left, what is planned is sound.
+module _ (says : (d : Running) → (canPlan d ≡ true) ↔
+    ((d .minute + longestLength * length (d .left) ≤ latestDeskEnd) × Agreeing (jobIn (d .rows)) (d .left)))
+    (sound : (ws : List ℕ) → CanPlan ws → 0 < length (running ws .left) → Sound (planningLeft (running ws))) where
+  module _ (ws : List ℕ) where
+    abbrev g : Planning
+    g = planningLeft (running ws)
+
+    pub here : plansHere ws ≡ true → CanPlan ws
+    unfolding plansHere
+    here e =
+        let t = parts (isDesk ws) (canPlan (running ws)) (is-true _ e) in
+        let h = says (running ws) .0 (true-is _ (t .1)) in
+        record { desk = desk-says ws .0 (true-is _ (t .0)); room = h .0; agree = h .1 }
+
+    pub here-is : CanPlan ws → plansHere ws ≡ true
+    unfolding plansHere
+    here-is c = rw (desk-says ws .1 (c .desk), says (running ws) .1 (c .room, c .agree))
+
+    pub list-away : plansHere ws ≡ false → (b : List ℕ) → listCall ws b ≡ gives (list-answer.Refused byRange 0) b
+    unfolding listCall
+    list-away e b = rw (e, listCall)
+
+    pub list-here : plansHere ws ≡ true → (b : List ℕ) → listCall ws b ≡ listOutcome g b
+    unfolding listCall
+    list-here e b = rw (e, listCall)
+
+    pub plan-away : plansHere ws ≡ false → (k : ℕ) (b : List ℕ) → planCall ws k b ≡ gives (order-answer.Refused byRange 0) b
+    unfolding planCall
+    plan-away e k b = rw (e, planCall)
+
+    pub plan-here : plansHere ws ≡ true → (k : ℕ) (b : List ℕ) → planCall ws k b ≡ planOutcome g k b
+    unfolding planCall
+    plan-here e k b = rw (e, planCall)
+
+    pub list-own : CanPlan ws → (b : List ℕ) (n p : ℕ) → Refuses (deskList ws b .answer) n p ↔ ListTurned g b n p
+    list-own c b = rw (list-here (here-is c) b) (list-turned g b)
+
+    pub list-refused : (b : List ℕ) (n p : ℕ) → Refuses (deskList ws b .answer) n p ↔ DeskTurned (CanPlan ws) (ListTurned g b) n p
+    list-refused b = step (plansHere ws) refl
+      where
+        step : (t : Bool) → plansHere ws ≡ t → (n p : ℕ) →
+            Refuses (deskList ws b .answer) n p ↔ DeskTurned (CanPlan ws) (ListTurned g b) n p
+        step false e = not-here (deskList ws b .answer) (CanPlan ws) (ListTurned g b) (λ c. false-is-true (sym e ∙ here-is c))
+            (ap (λ o. saidList (o .answer)) (list-away e b))
+        step true e = is-here (deskList ws b .answer) (CanPlan ws) (ListTurned g b) (here e) (list-own (here e) b)
+
+    -- With no row left, no plan has a number.
+    pub no-plans : running ws .left ≡ [] → g .plans ≡ []
+    unfolding plansFrom
+    no-plans e = ap (plansFrom (jobIn (running ws .rows)) (running ws .minute)) e
+
+    pub none-at : running ws .left ≡ [] → (k : ℕ) → nth (g .plans) k ≡ none
+    none-at e k = ap (λ (ps : List Pair). nth ps k) (no-plans e) ∙ nth-none k
+
+    plan-none : running ws .left ≡ [] → (k : ℕ) (b : List ℕ) (n p : ℕ) →
+        Refuses (saidOrder (planOutcome g k b .answer)) n p ↔ PlanTurned g k b n p
+    plan-none e k b =
+        says-no (saidOrder (planOutcome g k b .answer)) (PlanTurned g k b) byUnlisted (length (g .plans)) (omega arith)
+        (ap (λ o. saidOrder (o .answer)) (plan-unlisted g k b (none-at e k))) (table.unlisted unlisted) only
+      where
+        unlisted : ¬ ((1 ≤ k) × (k ≤ length (g .plans)))
+        unlisted h = omega (arith, h, ap (λ (ps : List Pair). length ps) (no-plans e))
+
+        only : (n p : ℕ) → PlanTurned g k b n p → (byUnlisted ≡ n) × (length (g .plans) ≡ p)
+        only _ _ (table.unlisted f) = (refl, refl)
+        only _ _ (table.narrow f h l) = absurd (unlisted (f, h))
+
+    pub plan-own : CanPlan ws → (k : ℕ) (b : List ℕ) (n p : ℕ) → Refuses (deskPlan ws k b .answer) n p ↔ PlanTurned g k b n p
+    plan-own c k b = rw (plan-here (here-is c) k b) (step (running ws .left) refl)
+      where
+        step : (is : List ℕ) → running ws .left ≡ is → (n p : ℕ) →
+            Refuses (saidOrder (planOutcome g k b .answer)) n p ↔ PlanTurned g k b n p
+        step [] e = plan-none e k b
+        step (i ∷ is) e = plan-turned g (sound ws c (omega (arith, ap (λ (js : List ℕ). length js) e))) k b
+
+    pub plan-refused : (k : ℕ) (b : List ℕ) (n p : ℕ) →
+        Refuses (deskPlan ws k b .answer) n p ↔ DeskTurned (CanPlan ws) (PlanTurned g k b) n p
+    plan-refused k b = step (plansHere ws) refl
+      where
+        step : (t : Bool) → plansHere ws ≡ t → (n p : ℕ) →
+            Refuses (deskPlan ws k b .answer) n p ↔ DeskTurned (CanPlan ws) (PlanTurned g k b) n p
+        step false e = not-here (deskPlan ws k b .answer) (CanPlan ws) (PlanTurned g k b) (λ c. false-is-true (sym e ∙ here-is c))
+            (ap (λ o. saidOrder (o .answer)) (plan-away e k b))
+        step true e = is-here (deskPlan ws k b .answer) (CanPlan ws) (PlanTurned g k b) (here e) (plan-own (here e) k b)

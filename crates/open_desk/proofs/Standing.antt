@@ -1,0 +1,117 @@
+-- What starts come to: with none, and with one more after the others.
+-- Assumes nothing.
+use Prim.Native.Nat.{ℕ, zero, suc, _+_, _≤_, _<_}
+use native.Mathlib.Omega.{arith}
+use native.Mathlib.Decide.{decLe}
+use mathlib.Core.Bool.{Bool, true, false, cond, _||_, or-false}
+use mathlib.Core.Path.{_≡_, refl, sym, ap, _∙_, subst}
+use mathlib.Core.List.{List, [], _∷_, _++_, map, map-append}
+use mathlib.Core.Option.{Option, none, some}
+use lib.Dec.{T, eqb}
+use lib.ListN.{length, getD, List·getD-map}
+use lib.IntN.{ℤ, subℕ}
+use lib.Signed.{leZ}
+use borrow.Author.Tests.{eqb-true, eqb-false, eq-eqb, ne-eqb}
+use Rattle.schedule.specs.declared.Row.{Row}
+use Rattle.schedule.specs.Rows.{noRow, jobOf, job, Day, jobs, countFrom, rowNumbers, stands, without}
+use Rattle.schedule.specs.Desk.{maxZ, worstOf}
+use Rattle.schedule.proofs.Tests.{false-is-true, is-true, is-false}
+use Rattle.schedule.proofs.Signed.{leZ-trans, leZ-total}
+use Rattle.schedule.proofs.Stands.{stands-behind}
+use Rattle.running.specs.Running.{Running, opened, noJob, jobIn, worse, moved, endAt, worstAt}
+use Rattle.open_desk.specs.History.{Start, endOfStart, latenessOfStart, minuteAfter, notTaken, worstSoFar, standing}
+
+-- What planning sees of a row is the same on the desk as of the day.
+pub job-held : (day : Day) (i : ℕ) → jobIn (map jobOf (day .rows)) i ≡ jobs day i
+job-held day zero = refl
+job-held day (suc i) = List·getD-map jobOf (day .rows) i noRow
+
+-- Nobody took a row yet.
+none-taken : (day : Day) (is : List ℕ) → notTaken day [] is ≡ is
+unfolding notTaken stands
+none-taken day [] = refl
+none-taken day (i ∷ is) = ap (λ (js : List ℕ). i ∷ js) (none-taken day is)
+
+pub at-first : (day : Day) → standing day [] ≡ opened day
+unfolding minuteAfter worstSoFar
+at-first day = rw (none-taken day (rowNumbers day))
+
+true-is : (b : Bool) → T b → b ≡ true
+true-is true h = refl
+true-is false h = absurd h
+
+-- The larger of three signed numbers, taken either way.
+max-assoc : (a b c : ℤ) → maxZ a (maxZ b c) ≡ maxZ (maxZ a b) c
+unfolding maxZ
+max-assoc a b c = step (leZ a b) (leZ b c) (leZ a c) refl refl refl
+  where
+    step : (p q r : Bool) → leZ a b ≡ p → leZ b c ≡ q → leZ a c ≡ r → maxZ a (maxZ b c) ≡ maxZ (maxZ a b) c
+    step true true true e f g = rw (e, f, g)
+    step true true false e f g = false-is-true (sym g ∙ true-is (leZ a c) (leZ-trans a b c (is-true _ e) (is-true _ f)))
+    step true false r e f g = rw (e, f, e)
+    step false true r e f g = rw (e, f)
+    step false false false e f g = rw (e, f, e, g)
+    step false false true e f g =
+        false-is-true (sym e ∙ true-is (leZ a b) (leZ-trans a c b (is-true _ g) (leZ-total b c (is-false _ f))))
+
+-- One lateness more at the end.
+worst-more : (x : ℤ) (xs : List ℤ) (y : ℤ) → worstOf ((x ∷ xs) ++ (y ∷ [])) ≡ maxZ (worstOf (x ∷ xs)) y
+unfolding worstOf
+worst-more x [] y = refl
+worst-more x (z ∷ zs) y = ap (maxZ x) (worst-more z zs y) ∙ max-assoc x (worstOf (z ∷ zs)) y
+
+module _ (day : Day) where
+  worst-on : (done : List Start) (s : Start) →
+      worstSoFar day (done ++ (s ∷ [])) ≡ some (worse (worstSoFar day done) (latenessOfStart day s))
+  unfolding worstSoFar worse worstOf
+  worst-on [] s = refl
+  worst-on (r ∷ rs) s =
+      ap {B = Option ℤ} some
+      (ap worstOf (map-append (latenessOfStart day) (r ∷ rs) (s ∷ [])) ∙
+      worst-more (latenessOfStart day r) (map (latenessOfStart day) rs) (latenessOfStart day s))
+
+  minute-on : (t : ℕ) (done : List Start) (s : Start) → minuteAfter day t (done ++ (s ∷ [])) ≡ endOfStart day s
+  unfolding minuteAfter
+  minute-on t [] s = refl
+  minute-on t (r ∷ rs) s = minute-on (endOfStart day r) rs s
+
+  abbrev taken : List Start → List ℕ
+  taken done = map (λ (s : Start). s .row) done
+
+  -- Whether a row is taken, with one start more.
+  taken-on : (j : ℕ) (done : List Start) (s : Start) → stands j (taken (done ++ (s ∷ []))) ≡ (stands j (taken done) || eqb j (s .row))
+  taken-on j done s =
+      ap (stands j) (map-append (λ (s : Start). s .row) done (s ∷ [])) ∙ stands-behind j (taken done) (s .row)
+
+  -- Rows that all stand behind the one more: it changes nothing among them.
+  behind : (done : List Start) (s : Start) (k n : ℕ) → s .row < k →
+      notTaken day (done ++ (s ∷ [])) (countFrom k n) ≡ notTaken day done (countFrom k n)
+  unfolding notTaken countFrom
+  behind done s k zero h = refl
+  behind done s k (suc n) h =
+      rw (taken-on k done s, ne-eqb k (s .row) (λ e. omega arith), or-false (stands k (taken done)), behind done s (suc k) n (omega arith))
+
+  -- The rows left after one start more are those left before it without its row.
+  left-on : (done : List Start) (s : Start) (k n : ℕ) →
+      notTaken day (done ++ (s ∷ [])) (countFrom k n) ≡ without (s .row) (notTaken day done (countFrom k n))
+  unfolding notTaken countFrom without
+  left-on done s k zero = refl
+  left-on done s k (suc n) = step (stands k (taken done)) (eqb k (s .row)) refl refl (left-on done s (suc k) n)
+    where
+      step : (a b : Bool) → stands k (taken done) ≡ a → eqb k (s .row) ≡ b →
+          notTaken day (done ++ (s ∷ [])) (countFrom (suc k) n) ≡ without (s .row) (notTaken day done (countFrom (suc k) n)) →
+          notTaken day (done ++ (s ∷ [])) (countFrom k (suc n)) ≡ without (s .row) (notTaken day done (countFrom k (suc n)))
+      step true b e f later = rw (taken-on k done s, e) later
+      step false true e f later =
+          let same : k ≡ s .row = eqb-true k (s .row) f in
+          rw (taken-on k done s, e, f, eq-eqb (s .row) k (sym same)) (behind done s (suc k) n (omega arith))
+      step false false e f later =
+          let other : s .row ≡ k → ⊥ = λ g. eqb-false k (s .row) f (sym g) in
+          rw (taken-on k done s, e, f, ne-eqb (s .row) k other) (ap (λ (js : List ℕ). k ∷ js) later)
+
+  -- A desk after starts, and the row i started on it at the minute m.
+  pub one-more : (done : List Start) (i m : ℕ) →
+      standing day (done ++ (record { row = i; minute = m } ∷ [])) ≡ moved (standing day done) i m
+  one-more done i m =
+      let s : Start = record { row = i; minute = m } in
+      rw (left-on done s 1 (length (day .rows)), minute-on (day .free) done s, worst-on done s, job-held day i)
