@@ -2,9 +2,9 @@
 ghost use mathlib.Core.Path.{_≡_};
 ghost use Rattle.calls.specs.Answers.{saidNo, saidList, saidOrder, saidVerdict, saidPlace};
 ghost use Rattle.answers.specs.Boundary.{answerOf};
-use calls::ListAnswer;
-use calls::OrderAnswer;
-use calls::VerdictAnswer;
+use outcomes::ListAnswer;
+use outcomes::OrderAnswer;
+use outcomes::VerdictAnswer;
 use row_calls::RowPlace;
 
 // What every call answers: the refusal's number, 0 for none, and its place, or the place of a row's number word; the count of plans, or the

@@ -21,12 +21,12 @@ use Rattle.readers.specs.Reads.{readBy, Gives}
 use Rattle.readers.specs.Accepted.{AcceptedDay}
 use Rattle.readers.proofs.Accepted.{accepted-day}
 use Rattle.readers.proofs.Readings.{given-passed}
-use Rattle.calls.specs.Calls.{listOutcome, orderOutcome, planOutcome, verdictOutcome, listCall, boundCall}
-use Rattle.calls.specs.Planning.{Planning, planningIn}
-use Rattle.calls.specs.Calls.{planCall, verdictCall}
-use Rattle.calls.specs.Plannable.{Plannable}
+use Rattle.outcomes.specs.Outcomes.{listOutcome, orderOutcome, planOutcome, verdictOutcome}
+use Rattle.outcomes.specs.Planning.{Planning, planningIn}
+use Rattle.outcomes.specs.Plannable.{Plannable}
+use Rattle.outcomes.proofs.Columns.{same-listed, same-ordered, same-planned, same-judged}
+use Rattle.calls.specs.Calls.{listCall, boundCall, planCall, verdictCall}
 use Rattle.calls.proofs.CallLaws.{list-of, bound-of, plan-of, verdict-of}
-use Rattle.calls.proofs.Columns.{same-listed, same-ordered, same-planned, same-judged}
 
 -- What is planned of what a book gave.
 abbrev pub planningBy : Terms → Given → Planning

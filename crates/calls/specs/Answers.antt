@@ -4,12 +4,12 @@ use Prim.Native.Nat.{ℕ}
 use lib.IntN.{ℤ, pos}
 use Rattle.row_calls.specs.declared.RowPlace.{RowPlace}
 use Rattle.row_calls.specs.declared.RowPlace.the-variants as row-place
-use Rattle.calls.specs.declared.ListAnswer.{ListAnswer}
-use Rattle.calls.specs.declared.ListAnswer.the-variants as list-answer
-use Rattle.calls.specs.declared.OrderAnswer.{OrderAnswer}
-use Rattle.calls.specs.declared.OrderAnswer.the-variants as order-answer
-use Rattle.calls.specs.declared.VerdictAnswer.{VerdictAnswer}
-use Rattle.calls.specs.declared.VerdictAnswer.the-variants as verdict-answer
+use Rattle.outcomes.specs.declared.ListAnswer.{ListAnswer}
+use Rattle.outcomes.specs.declared.ListAnswer.the-variants as list-answer
+use Rattle.outcomes.specs.declared.OrderAnswer.{OrderAnswer}
+use Rattle.outcomes.specs.declared.OrderAnswer.the-variants as order-answer
+use Rattle.outcomes.specs.declared.VerdictAnswer.{VerdictAnswer}
+use Rattle.outcomes.specs.declared.VerdictAnswer.the-variants as verdict-answer
 
 -- The refusal's number, 0 for none, and place; the count of plans, or the plan that beats; end and worst lateness.
 pub record Said : Type 0 where

@@ -14,13 +14,13 @@ use Rattle.readers.specs.declared.Terms.{Terms}
 use Rattle.row_calls.specs.declared.RowPlace.{RowPlace}
 use Rattle.readers.specs.Reads.{readBy}
 use Rattle.row_calls.specs.Places.{placeCall, wordsCall}
-use Rattle.calls.specs.declared.ListAnswer.{ListAnswer}
-use Rattle.calls.specs.declared.ListAnswer.the-variants as list-answer
-use Rattle.calls.specs.declared.OrderAnswer.{OrderAnswer}
-use Rattle.calls.specs.declared.OrderAnswer.the-variants as order-answer
-use Rattle.calls.specs.declared.VerdictAnswer.{VerdictAnswer}
+use Rattle.outcomes.specs.declared.ListAnswer.{ListAnswer}
+use Rattle.outcomes.specs.declared.ListAnswer.the-variants as list-answer
+use Rattle.outcomes.specs.declared.OrderAnswer.{OrderAnswer}
+use Rattle.outcomes.specs.declared.OrderAnswer.the-variants as order-answer
+use Rattle.outcomes.specs.declared.VerdictAnswer.{VerdictAnswer}
+use Rattle.outcomes.specs.Planning.{Outcome, gives}
 use Rattle.calls.specs.Calls.{listCall, boundCall, planCall, verdictCall}
-use Rattle.calls.specs.Planning.{Outcome, gives}
 use Rattle.calls.specs.Lines.{Line, Printed, printed}
 
 -- A row of a book as the days give it: number, release, pages and due, or class.

@@ -1,7 +1,7 @@
 // The offered calls. All that is asked of the planner and of the book's reader is asked here.
-use calls::ListAnswer;
-use calls::OrderAnswer;
-use calls::VerdictAnswer;
+use outcomes::ListAnswer;
+use outcomes::OrderAnswer;
+use outcomes::VerdictAnswer;
 use row_calls::RowPlace;
 
 // The number and the place of a refusal. Where the number is 0: a place or a count, an end, and a worst lateness in two's complement.

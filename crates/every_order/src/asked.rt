@@ -1,7 +1,7 @@
 // The offered calls. All that is asked of the planner is asked here.
-use calls::ListAnswer;
-use calls::OrderAnswer;
-use calls::VerdictAnswer;
+use outcomes::ListAnswer;
+use outcomes::OrderAnswer;
+use outcomes::VerdictAnswer;
 
 // The number and the place of a refusal. Where the number is 0: a count or a plan, an end, and a worst lateness, raised by 2^31.
 pub struct Answer {

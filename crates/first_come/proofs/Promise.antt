@@ -18,11 +18,12 @@ use Rattle.readers.specs.Accepted.{AcceptedDay}
 use Rattle.readers.proofs.Accepted.{accepted-day}
 use Rattle.readers.proofs.OneDay.{one-day}
 use Rattle.results.specs.Results.{written, planWords}
-use Rattle.calls.specs.declared.ListAnswer.the-variants as list-answer
+use Rattle.outcomes.specs.declared.ListAnswer.the-variants as list-answer
+use Rattle.outcomes.specs.Outcomes.{listOutcome}
+use Rattle.outcomes.specs.Planning.{gives, planningOf}
+use Rattle.outcomes.proofs.OutcomeLaws.{list-narrow, list-is}
 use Rattle.calls.specs.Answers.{saidList}
-use Rattle.calls.specs.Calls.{listOutcome}
-use Rattle.calls.specs.Planning.{gives, planningOf}
-use Rattle.calls.proofs.CallLaws.{list-of, list-narrow, list-is}
+use Rattle.calls.proofs.CallLaws.{list-of}
 use Rattle.promises.specs.Vocabulary.{told, list, Accepts}
 use Rattle.promises.specs.Promise.{Property1, Property2, Property3}
 use Rattle.promises.proofs.Accepted.{accepts}

@@ -14,12 +14,12 @@ use Rattle.row_calls.specs.Places.{openPlaces}
 use Rattle.row_calls.specs.declared.RowPlace.the-variants as row-place
 use Rattle.postings.specs.Posting.{openPosting}
 use Rattle.results.specs.Results.{openResults}
-use Rattle.calls.specs.declared.ListAnswer.the-variants as list-answer
-use Rattle.calls.specs.declared.VerdictAnswer.the-variants as verdict-answer
+use Rattle.outcomes.specs.declared.ListAnswer.the-variants as list-answer
+use Rattle.outcomes.specs.declared.VerdictAnswer.the-variants as verdict-answer
 use Rattle.grammar.specs.Books.{wordOf}
 use Rattle.grammar.specs.Books.{bookOf as book}
+use Rattle.outcomes.specs.Planning.{gives}
 use Rattle.calls.specs.Calls.{openCalls}
-use Rattle.calls.specs.Planning.{gives}
 use Rattle.calls.specs.Days.{entry, reading, list, bound, plan, posting, rowWordsOf, rowPlaceOf}
 use Rattle.calls.specs.Days.{reads, lists, judges, words, finds, Worked, _gets_, plans, order, turnedDown, answerTo, Hold, hold}
 use Rattle.first_come.specs.Promise.{firstCome}

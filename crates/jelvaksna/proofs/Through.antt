@@ -1,7 +1,7 @@
 -- From an answer through its fields, and a call's outcome, to what crosses the boundary.
 -- Assumes nothing.
 use mathlib.Core.Path.{_≡_, ap, _∙_}
-use Rattle.calls.specs.Planning.{Outcome}
+use Rattle.outcomes.specs.Planning.{Outcome}
 use Rattle.calls.specs.Answers.{Said}
 use Rattle.answers.specs.declared.Answer.{Answer}
 use Rattle.answers.specs.Boundary.{answerOf}

@@ -15,12 +15,12 @@ use Rattle.row_calls.specs.Places.{openPlaces}
 use Rattle.row_calls.specs.declared.RowPlace.the-variants as row-place
 use Rattle.postings.specs.Posting.{openPosting}
 use Rattle.results.specs.Results.{openResults}
-use Rattle.calls.specs.declared.ListAnswer.the-variants as list-answer
-use Rattle.calls.specs.declared.VerdictAnswer.the-variants as verdict-answer
+use Rattle.outcomes.specs.declared.ListAnswer.the-variants as list-answer
+use Rattle.outcomes.specs.declared.VerdictAnswer.the-variants as verdict-answer
 use Rattle.grammar.specs.Books.{wordOf}
 use Rattle.grammar.specs.Books.{bookOf as book}
+use Rattle.outcomes.specs.Planning.{gives}
 use Rattle.calls.specs.Calls.{openCalls}
-use Rattle.calls.specs.Planning.{gives}
 use Rattle.calls.specs.Lines.{listing, openLines}
 use Rattle.calls.specs.Days.{entry, sold, reading, printing, list, bound, plan, posting, rowWordsOf, rowPlaceOf, lengthOf}
 use Rattle.calls.specs.Days.{reads, prints, lists, judges, words, finds, takes, lasts, due, plans, order, turnedDown, line}

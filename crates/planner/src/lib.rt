@@ -2,12 +2,12 @@
 // the answer, and every word of the result buffer at exit.
 ghost use mathlib.Core.Path.{_≡_};
 ghost use Rattle.row_calls.specs.Places.{placeCall, wordsCall};
+ghost use Rattle.outcomes.specs.Planning.{gives};
 ghost use Rattle.calls.specs.Calls.{listCall, boundCall, planCall, verdictCall};
-ghost use Rattle.calls.specs.Planning.{gives};
 ghost use Rattle.planner.specs.Promise.{orderingRule};
-use calls::ListAnswer;
-use calls::OrderAnswer;
-use calls::VerdictAnswer;
+use outcomes::ListAnswer;
+use outcomes::OrderAnswer;
+use outcomes::VerdictAnswer;
 use readers::Terms;
 use row_calls::RowPlace;
 use schedule::Profile;

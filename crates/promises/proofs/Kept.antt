@@ -17,11 +17,11 @@ use Rattle.schedule.proofs.Signed.{leZ→, →leZ, ltZ→, →ltZ}
 use Rattle.refusals.specs.declared.Tested.the-variants as tested
 use Rattle.postings.specs.Posting.{postingTests}
 use Rattle.results.specs.Results.{written, complement, signed, planWords, orZero}
+use Rattle.outcomes.specs.Outcomes.{judgedOf, listOutcome, orderOutcome, planOutcome, verdictOutcome}
+use Rattle.outcomes.specs.Planning.{gives, nth, Planning}
+use Rattle.outcomes.proofs.Sound.{Sound, posted}
+use Rattle.outcomes.proofs.OutcomeLaws.{list-is, plan-is, verdict-is, order-some, order-none}
 use Rattle.calls.specs.Answers.{saidList, saidOrder, saidVerdict}
-use Rattle.calls.specs.Calls.{judgedOf, listOutcome, orderOutcome, planOutcome, verdictOutcome}
-use Rattle.calls.specs.Planning.{gives, nth, Planning}
-use Rattle.calls.proofs.Sound.{Sound, posted}
-use Rattle.calls.proofs.CallLaws.{list-is, plan-is, verdict-is, order-some, order-none}
 use Rattle.promises.specs.Vocabulary.{told, saidCount, saidPair, saidJudged, listed, ReaderOrder, endBy, lateBy, pairBy}
 use Rattle.promises.specs.Vocabulary.{NoneBeats, EndsSooner, LessLate}
 use Rattle.promises.specs.Promise.{Covered, PlanOrders, NamesSooner, ListsLess, Judged, BoundAnswered, kept, unkept}

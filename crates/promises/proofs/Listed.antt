@@ -17,7 +17,7 @@ use Rattle.schedule.proofs.Tests.{is-true, is-false}
 use Rattle.schedule.proofs.Signed.{up, down}
 use Rattle.schedule.proofs.Beats.{beats-says, unbeaten-says}
 use Rattle.results.specs.Results.{complement, signed, planWords, plansIn}
-use Rattle.calls.specs.Planning.{nth}
+use Rattle.outcomes.specs.Planning.{nth}
 
 -- Two's complement gives a signed 32-bit number back.
 pub signed-back : (z : ℤ) → up z ≤ 2147483647 + down z → down z ≤ up z + 2147483648 → signed (complement z) ≡ z

@@ -12,11 +12,11 @@ use Rattle.schedule.specs.Desk.{Pair, pairOf}
 use Rattle.schedule.proofs.Orders.{perm-count}
 use Rattle.results.specs.Results.{written, planWords}
 use Rattle.results.proofs.ResultWords.{plan-length}
+use Rattle.outcomes.specs.Outcomes.{listOutcome, orderOutcome, planOutcome}
+use Rattle.outcomes.specs.Planning.{Outcome, gives, nth, Planning}
+use Rattle.outcomes.proofs.Sound.{Sound}
+use Rattle.outcomes.proofs.OutcomeLaws.{list-narrow, list-is, plan-is, plan-unlisted, order-narrow, order-some, order-none}
 use Rattle.calls.specs.Answers.{Said, saidNo, saidList, saidOrder}
-use Rattle.calls.specs.Calls.{listOutcome, orderOutcome, planOutcome}
-use Rattle.calls.specs.Planning.{Outcome, gives, nth, Planning}
-use Rattle.calls.proofs.Sound.{Sound}
-use Rattle.calls.proofs.CallLaws.{list-narrow, list-is, plan-is, plan-unlisted, order-narrow, order-some, order-none}
 use Rattle.promises.specs.Vocabulary.{told, saidCount, saidPair}
 
 -- What becomes of the buffer.

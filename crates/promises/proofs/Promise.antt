@@ -33,11 +33,11 @@ use Rattle.row_calls.specs.declared.RowPlace.{RowPlace}
 use Rattle.row_calls.specs.declared.RowPlace.the-variants as row-place
 use Rattle.row_calls.specs.Places.{placeIn, placeCall, rowWordsAt}
 use Rattle.results.specs.Results.{written, planWords}
+use Rattle.outcomes.specs.Outcomes.{verdictOutcome}
+use Rattle.outcomes.specs.Planning.{gives, Planning, planningOf}
+use Rattle.outcomes.proofs.Sound.{Sound}
+use Rattle.outcomes.proofs.OutcomeLaws.{order-some}
 use Rattle.calls.specs.Answers.{saidList, saidOrder, saidVerdict, saidPlace}
-use Rattle.calls.specs.Calls.{verdictOutcome}
-use Rattle.calls.specs.Planning.{gives, Planning, planningOf}
-use Rattle.calls.proofs.Sound.{Sound}
-use Rattle.calls.proofs.CallLaws.{order-some}
 use Rattle.calls.proofs.CallLaws.{list-refused, bound-refused, plan-refused, verdict-refused, list-of, bound-of, plan-of, verdict-of}
 use Rattle.promises.specs.Vocabulary as calls
 use Rattle.promises.specs.Vocabulary.{told, Accepts, Refuses}

@@ -27,13 +27,13 @@ use Rattle.row_calls.specs.declared.RowPlace.{RowPlace}
 use Rattle.row_calls.specs.declared.RowPlace.the-variants.{At, Refused}
 use Rattle.row_calls.specs.Places.{placeIn}
 use Rattle.postings.specs.Posting.{postingTests}
+use Rattle.outcomes.specs.Outcomes.{judgedOf, listOutcome, orderOutcome, planOutcome, verdictOutcome}
+use Rattle.outcomes.specs.Planning.{nth, Planning}
+use Rattle.outcomes.proofs.Sound.{Sound}
+use Rattle.outcomes.proofs.Plans.{nth-in, nth-zero, nth-out}
+use Rattle.outcomes.proofs.OutcomeLaws.{list-narrow, list-is, plan-is, plan-unlisted, verdict-no, verdict-is}
+use Rattle.outcomes.proofs.OutcomeLaws.{order-narrow, order-some, order-none}
 use Rattle.calls.specs.Answers.{Said, saidNo, saidList, saidOrder, saidVerdict, saidPlace}
-use Rattle.calls.specs.Calls.{judgedOf, listOutcome, orderOutcome, planOutcome, verdictOutcome}
-use Rattle.calls.specs.Planning.{nth, Planning}
-use Rattle.calls.proofs.Sound.{Sound}
-use Rattle.calls.proofs.Plans.{nth-in, nth-zero, nth-out}
-use Rattle.calls.proofs.CallLaws.{list-narrow, list-is, plan-is, plan-unlisted, verdict-no, verdict-is}
-use Rattle.calls.proofs.CallLaws.{order-narrow, order-some, order-none}
 use Rattle.promises.specs.Vocabulary.{Refuses}
 use Rattle.promises.specs.Table as table
 use Rattle.promises.specs.Table.{Turned, by-book, by-call, ListTurned, BoundTurned, PlanTurned, VerdictTurned, RowTurned}

@@ -26,8 +26,8 @@ use Rattle.book.specs.Rows.{accepted}
 use Rattle.readers.specs.declared.Terms.{Terms}
 use Rattle.readers.specs.Reads.{readBy}
 use Rattle.results.specs.Results.{written, planWords, orZero}
+use Rattle.outcomes.specs.Planning.{Outcome, gives, nth, Planning, planningOf}
 use Rattle.calls.specs.Answers.{Said, saidNo}
-use Rattle.calls.specs.Planning.{Outcome, gives, nth, Planning, planningOf}
 use Rattle.promises.specs.Vocabulary.{saidCount, saidPair, saidJudged, saidAt, Refuses, listed, ReaderOrder, endBy, lateBy, pairBy}
 use Rattle.promises.specs.Vocabulary.{list, bound, plan, verdict, place, words, NoneBeats, EndsSooner, LessLate, Accepts}
 use Rattle.promises.specs.Table.{Turned, ListTurned, BoundTurned, PlanTurned, VerdictTurned, RowTurned}

@@ -16,7 +16,7 @@ use Rattle.refusals.specs.Refusals.{byDisorder, byNarrow, byNotPosting, byUnlis
 use Rattle.pairs.specs.Pairs.{numberWord}
 use Rattle.grammar.specs.Words.{FirstWrong}
 use Rattle.grammar.specs.Books.{Tells}
-use Rattle.calls.specs.Planning.{Planning}
+use Rattle.outcomes.specs.Planning.{Planning}
 use Rattle.promises.specs.Vocabulary.{ReaderOrder, lateBy, Disagree, Cross, Accepts}
 
 -- Row k is the earliest of the rows that clashes with any row above it.

@@ -18,9 +18,9 @@ use Rattle.readers.specs.declared.Terms.{Terms}
 use Rattle.readers.specs.Rules.{spare}
 use Rattle.row_calls.specs.Places.{placeCall, wordsCall}
 use Rattle.results.specs.Results.{plansIn}
+use Rattle.outcomes.specs.Planning.{Outcome, gives, Planning}
 use Rattle.calls.specs.Answers.{Said, saidList, saidOrder, saidVerdict, saidPlace}
 use Rattle.calls.specs.Calls.{listCall, boundCall, planCall, verdictCall}
-use Rattle.calls.specs.Planning.{Outcome, gives, Planning}
 
 -- What a call says in the numbers of the table of refusals, and the buffer after it.
 abbrev pub told : {A : Type 0} → (A → Said) → Outcome A → Outcome Said

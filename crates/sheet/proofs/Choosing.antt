@@ -19,13 +19,14 @@ use Rattle.book.specs.Tables.{tableOf, tableRows, readingOf}
 use Rattle.book.proofs.Tables.{table-rows}
 use Rattle.readers.specs.Reads.{readBy}
 use Rattle.readers.proofs.Accepted.{read-words-gave, accepted-day}
-use Rattle.calls.specs.declared.ListAnswer.{ListAnswer}
-use Rattle.calls.specs.declared.ListAnswer.the-variants as list-answer
+use Rattle.outcomes.specs.declared.ListAnswer.{ListAnswer}
+use Rattle.outcomes.specs.declared.ListAnswer.the-variants as list-answer
+use Rattle.outcomes.specs.Planning.{Outcome, gives, planningOf}
+use Rattle.outcomes.proofs.OutcomeLaws.{list-is}
 use Rattle.calls.specs.Answers.{saidList}
 use Rattle.calls.specs.Calls.{listCall}
-use Rattle.calls.specs.Planning.{Outcome, gives, planningOf}
 use Rattle.calls.specs.Lines.{refusal, printed}
-use Rattle.calls.proofs.CallLaws.{list-refused, list-of, list-is}
+use Rattle.calls.proofs.CallLaws.{list-refused, list-of}
 use Rattle.promises.specs.Vocabulary.{told, listed}
 use Rattle.promises.proofs.Kept.{listed-same}
 use Rattle.promises.proofs.Promise.{day-sound}

@@ -9,7 +9,7 @@ use native.Mathlib.Nat.{add-zero}
 use native.Mathlib.Numerals.{add-one}
 use lib.ListN.{length, take}
 use lib.Seq.{length-take-le}
-use Rattle.calls.specs.Planning.{nth}
+use Rattle.outcomes.specs.Planning.{nth}
 use Rattle.calls.specs.Lines.{Line}
 use Rattle.lines.specs.LineBytes.{planLine}
 use Rattle.sheet.specs.Shown.{planLines}

@@ -26,11 +26,12 @@ use Rattle.book.specs.Tables.{tableRows}
 use Rattle.readers.specs.Reads.{readBy}
 use Rattle.readers.proofs.Accepted.{accepted-day}
 use Rattle.results.specs.Results.{written, signed, plansIn}
-use Rattle.calls.specs.declared.OrderAnswer.{OrderAnswer}
+use Rattle.outcomes.specs.declared.OrderAnswer.{OrderAnswer}
+use Rattle.outcomes.specs.Planning.{Outcome, nth, planningOf}
+use Rattle.outcomes.proofs.OutcomeLaws.{order-some}
 use Rattle.calls.specs.Calls.{boundCall}
-use Rattle.calls.specs.Planning.{Outcome, nth, planningOf}
 use Rattle.calls.specs.Lines.{Line, listing, numbersOf, lineOf, printed}
-use Rattle.calls.proofs.CallLaws.{bound-of, order-some}
+use Rattle.calls.proofs.CallLaws.{bound-of}
 use Rattle.promises.proofs.Listed.{nth-mem}
 use Rattle.promises.proofs.Promise.{day-sound}
 use Rattle.planner.specs.Promise.{orderingRule}

@@ -7,9 +7,9 @@ use mathlib.Core.Option.{some}
 use lib.ListN.{length, getD, replicate}
 use Rattle.schedule.specs.Limits.{mostRows, rowPlaces}
 use Rattle.results.specs.Results.{signed}
-use Rattle.calls.specs.declared.ListAnswer.the-variants.{Plans}
+use Rattle.outcomes.specs.declared.ListAnswer.the-variants.{Plans}
+use Rattle.outcomes.specs.Planning.{gives, nth}
 use Rattle.calls.specs.Calls.{listCall, boundCall}
-use Rattle.calls.specs.Planning.{gives, nth}
 use Rattle.calls.specs.Lines.{Line, Printed, refusal, listing, printed}
 use Rattle.planner.specs.Promise.{orderingRule}
 

@@ -17,8 +17,8 @@ ghost use Rattle.input.specs.Input.{wordsIn, Counted};
 ghost use Rattle.sheet.specs.Shown.{planLines, bytesOf, shown};
 ghost use Rattle.sheet.specs.Parts.{sheetBytes, Answered, Listed, orderNumbers, linesOf};
 use book::Table;
-use calls::ListAnswer;
 use input::WORDS;
+use outcomes::ListAnswer;
 use refusals::Tested;
 use schedule::Desk;
 

@@ -5,9 +5,9 @@ use denote.Ref.{now}
 use mathlib.Core.Path.{sym, ap, _∙_}
 use lib.IntN.{ℤ}
 use Rattle.readers.proofs.Readings.{given-refused}
-use Rattle.calls.specs.Calls.{orderOutcome}
+use Rattle.outcomes.specs.Outcomes.{orderOutcome}
+use Rattle.outcomes.proofs.Answered.{bound-back}
 use Rattle.calls.proofs.CallLaws.{bound-refused}
-use Rattle.calls.proofs.Answered.{bound-back}
 use Rattle.calls.proofs.Ready.{Ready, planningBy, ready}
 use Rattle.calls.proofs.order_for_bound.Statement.{statement}
 use Rattle.calls.proofs.order_for_bound.Tie as tie
@@ -38,8 +38,8 @@ enum-told c = search needs
 raise-requires : tie.Need-raise-requires
 raise-requires c κs = search needs
 
-order-into-requires : tie.Need-order-into-requires
-order-into-requires c κs = planned (c .before .before .before .before .before .before) .plannable
+order-in-requires : tie.Need-order-in-requires
+order-in-requires c κs = planned (c .before .before .before .before .before .before) .plannable
 
 same-length : tie.Need-same-length
 same-length c = search needs
@@ -49,9 +49,9 @@ returns-2 c =
     let s = c .before .before .before .before .before .before .before .before .before .before .before .before .before .before in
     let a = s .args in
     let r = c .before .before .before .before .before .before .before .before .before .before .before .read .result in
-    let y = bound-back (a .bound) (c .before .before .before .before .raise .result) (s .fits .bound)
-    (c .before .before .before .before .raise .ensures) in
-    c .before .before .order-into .ensures ∙ ap (λ (z : ℤ). orderOutcome (planningBy (a .terms) r) z (a .result .now)) y ∙
+    let w = c .before .before .before .before .raise in
+    let y = bound-back (a .bound) (w .result) (s .fits .bound) (w .ensures) in
+    c .before .before .order-in .ensures ∙ ap (λ (z : ℤ). orderOutcome (planningBy (a .terms) r) z (a .result .now)) y ∙
     planned (c .before .before .before .before .before .before .before .before .before) .bound (a .bound) (a .result .now)
 
 pub order-for-bound-spec : {M : Type 1} → statement M
@@ -63,6 +63,6 @@ order-for-bound-spec =
     returns
     enum-told
     raise-requires
-    order-into-requires
+    order-in-requires
     same-length
     returns-2)

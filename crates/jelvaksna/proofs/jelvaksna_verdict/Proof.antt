@@ -1,7 +1,7 @@
 -- `jelvaksna_verdict` meets its contract: the call's, through the answer's fields.
 -- Assumes nothing.
 use mathlib.Core.Path.{ap, _∙_}
-use Rattle.calls.specs.declared.VerdictAnswer.{VerdictAnswer}
+use Rattle.outcomes.specs.declared.VerdictAnswer.{VerdictAnswer}
 use Rattle.calls.specs.Answers.{saidVerdict}
 use Rattle.answers.specs.Boundary.{answerOf}
 use borrow.Author.Needs.{needs}

@@ -5,9 +5,9 @@ use mathlib.Core.Path.{ap, _∙_}
 use mathlib.Core.List.{map}
 use lib.IntN.{ℤ}
 use lib.ListN.{getD}
-use Rattle.calls.specs.declared.OrderAnswer.{OrderAnswer}
+use Rattle.outcomes.specs.declared.OrderAnswer.{OrderAnswer}
+use Rattle.outcomes.specs.Planning.{Outcome}
 use Rattle.calls.specs.Calls.{boundCall}
-use Rattle.calls.specs.Planning.{Outcome}
 use Rattle.planner.specs.Promise.{orderingRule}
 use Rattle.sheet.proofs.Standing.{signed-word}
 use native.Mathlib.Omega.{arith}

@@ -4,8 +4,8 @@ use borrow.Author.Needs.{needs}
 use native.Mathlib.Omega.{arith}
 use native.Mathlib.Nat.{le-refl}
 use mathlib.Core.Path.{sym, ap, _∙_}
-use Rattle.calls.specs.declared.ListAnswer.{ListAnswer}
-use Rattle.calls.specs.Planning.{gives}
+use Rattle.outcomes.specs.declared.ListAnswer.{ListAnswer}
+use Rattle.outcomes.specs.Planning.{gives}
 use Rattle.lines.proofs.Adding.{same-added}
 use Rattle.sheet.proofs.Choosing.{odd-shown, even-shown, list-turned, all-counted, same-counted}
 use Rattle.sheet.proofs.put_lines.Statement.{statement}

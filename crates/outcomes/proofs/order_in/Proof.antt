@@ -1,4 +1,4 @@
--- `order_into` meets its contract: too short a buffer, then what the search answers.
+-- `order_in` meets its contract: too short a buffer, then what the search answers.
 -- Assumes nothing.
 use borrow.Author.Needs.{needs}
 use native.Mathlib.Omega.{arith}
@@ -6,11 +6,11 @@ use mathlib.Core.Path.{ap, _∙_}
 use lib.IntN.{ℤ}
 use Rattle.schedule.specs.Offset.{lowered}
 use Rattle.schedule.proofs.SignedWords.{lowered-word}
-use Rattle.calls.specs.declared.OrderAnswer.the-variants as order-answer
-use Rattle.calls.specs.Planning.{gives}
-use Rattle.calls.proofs.Answered.{order-short, order-unkept, order-kept}
-use Rattle.calls.proofs.order_into.Statement.{statement}
-use Rattle.calls.proofs.order_into.Tie as tie
+use Rattle.outcomes.specs.declared.OrderAnswer.the-variants as order-answer
+use Rattle.outcomes.specs.Planning.{gives}
+use Rattle.outcomes.proofs.Answered.{order-short, order-unkept, order-kept}
+use Rattle.outcomes.proofs.order_in.Statement.{statement}
+use Rattle.outcomes.proofs.order_in.Tie as tie
 
 returns : tie.Need-returns
 returns c =
@@ -56,8 +56,8 @@ returns-3 c =
     (c .before .before .before .before .before .before .before .before .if1 .left) (o .result) _ (o .ensures) (k .0 .0) (k .0 .1 .0)
     (k .1)
 
-pub order-into-spec : {M : Type 1} → statement M
-order-into-spec =
+pub order-in-spec : {M : Type 1} → statement M
+order-in-spec =
     tie.close
     (tie.spec
     returns

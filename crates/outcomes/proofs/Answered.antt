@@ -30,21 +30,20 @@ use Rattle.listing.specs.Fronts.{pairAt, held, Sized, HoldsPlans}
 use Rattle.listing.proofs.Fronts.{held-at, plans-sized, plans-held}
 use Rattle.arrival.specs.Given.{writtenOf, OrderGiven, Followed}
 use Rattle.results.specs.Results.{written, planWords, orZero}
-use Rattle.calls.specs.declared.ListAnswer.the-variants as list-answer
-use Rattle.calls.specs.declared.OrderAnswer.{OrderAnswer}
-use Rattle.calls.specs.declared.OrderAnswer.the-variants as order-answer
-use Rattle.calls.specs.declared.VerdictAnswer.{VerdictAnswer}
-use Rattle.calls.specs.declared.VerdictAnswer.the-variants as verdict-answer
-use Rattle.calls.specs.Calls.{judgedOf, listOutcome, orderOutcome, planOutcome}
-use Rattle.calls.specs.Planning.{Outcome, gives, nth, Planning, planningIn}
-use Rattle.calls.specs.Calls.{verdictOutcome}
-use Rattle.calls.specs.Plannable.{Plannable}
-use Rattle.calls.proofs.CallLaws.{list-narrow, list-is, plan-is, plan-unlisted, verdict-no, verdict-is, order-narrow, order-some}
-use Rattle.calls.proofs.CallLaws.{order-none}
-use Rattle.calls.proofs.Plans.{nth-in, nth-zero, nth-out}
-use Rattle.calls.proofs.Columns.{sound-in, order-lowers, plan-lowers, posting-order, posting-length}
+use Rattle.outcomes.specs.declared.ListAnswer.the-variants as list-answer
+use Rattle.outcomes.specs.declared.OrderAnswer.{OrderAnswer}
+use Rattle.outcomes.specs.declared.OrderAnswer.the-variants as order-answer
+use Rattle.outcomes.specs.declared.VerdictAnswer.{VerdictAnswer}
+use Rattle.outcomes.specs.declared.VerdictAnswer.the-variants as verdict-answer
+use Rattle.outcomes.specs.Outcomes.{judgedOf, listOutcome, orderOutcome, planOutcome, verdictOutcome}
+use Rattle.outcomes.specs.Planning.{Outcome, gives, nth, Planning, planningIn}
+use Rattle.outcomes.specs.Plannable.{Plannable}
+use Rattle.outcomes.proofs.OutcomeLaws.{list-narrow, list-is, plan-is, plan-unlisted, verdict-no, verdict-is}
+use Rattle.outcomes.proofs.OutcomeLaws.{order-narrow, order-some, order-none}
+use Rattle.outcomes.proofs.Plans.{nth-in, nth-zero, nth-out}
+use Rattle.outcomes.proofs.Columns.{sound-in, order-lowers, plan-lowers, posting-order, posting-length}
 
--- The signed number that is raised comes back.
+-- The signed bound that a caller raises comes back.
 pub bound-back : (y : ℤ) (n : ℕ) → SFits w32 y → n ≡ raised (toZ w32 (ofZ w32 y)) → lowered n ≡ y
 bound-back y n f e = ap lowered (e ∙ ap raised (toZ-ofZ w32 y f)) ∙ lowered-raised y (f .sfits)
 

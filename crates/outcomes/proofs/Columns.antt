@@ -1,4 +1,4 @@
--- What is planned of rows in columns, and from there to the day that the columns hold.
+-- What is planned of rows that can be planned, as those in columns, and that jobs which are the same on the rows give the same outcomes.
 -- Assumes nothing.
 use Prim.Native.Nat.{ℕ, zero, suc, _-_, _*_, _≤_, _<_}
 use native.Mathlib.Omega.{arith}
@@ -25,14 +25,14 @@ use Rattle.refusals.specs.declared.Tested.the-variants as tested
 use Rattle.postings.specs.Posting.{postingTests}
 use Rattle.search.proofs.Signs.{late-lowers}
 use Rattle.results.specs.Results.{written, planWords}
-use Rattle.calls.specs.declared.ListAnswer.the-variants as list-answer
-use Rattle.calls.specs.declared.OrderAnswer.the-variants as order-answer
-use Rattle.calls.specs.Calls.{judgedOf, listOutcome, orderOutcome, planOutcome, verdictOutcome}
-use Rattle.calls.specs.Planning.{gives, nth, Planning, planningIn}
-use Rattle.calls.specs.Plannable.{Plannable}
-use Rattle.calls.proofs.CallLaws.{list-narrow, list-is, plan-is, plan-unlisted, verdict-no, verdict-is, order-narrow, order-some}
-use Rattle.calls.proofs.CallLaws.{order-none}
-use Rattle.calls.proofs.Sound.{Sound, posted}
+use Rattle.outcomes.specs.declared.ListAnswer.the-variants as list-answer
+use Rattle.outcomes.specs.declared.OrderAnswer.the-variants as order-answer
+use Rattle.outcomes.specs.Outcomes.{judgedOf, listOutcome, orderOutcome, planOutcome, verdictOutcome}
+use Rattle.outcomes.specs.Planning.{gives, nth, Planning, planningIn}
+use Rattle.outcomes.specs.Plannable.{Plannable}
+use Rattle.outcomes.proofs.OutcomeLaws.{list-narrow, list-is, plan-is, plan-unlisted, verdict-no, verdict-is}
+use Rattle.outcomes.proofs.OutcomeLaws.{order-narrow, order-some, order-none}
+use Rattle.outcomes.proofs.Sound.{Sound, posted}
 
 module _ {profile : Profile} {job : ℕ → Job} {t n : ℕ} (p : Plannable profile job t n) where
   abbrev rows : List ℕ

@@ -5,9 +5,9 @@ use native.Mathlib.Omega.{arith}
 use lib.ListN.{take}
 use Rattle.schedule.proofs.SignedWords.{lowered-word}
 use Rattle.listing.specs.Fronts.{pairAt, pairsOf}
-use Rattle.calls.proofs.Answered.{judge-none, judge-some}
-use Rattle.calls.proofs.judge.Statement.{statement}
-use Rattle.calls.proofs.judge.Tie as tie
+use Rattle.outcomes.proofs.Answered.{judge-none, judge-some}
+use Rattle.outcomes.proofs.judge.Statement.{statement}
+use Rattle.outcomes.proofs.judge.Tie as tie
 
 lower-requires : tie.Need-lower-requires
 lower-requires c κs = search needs

@@ -7,7 +7,7 @@ use mathlib.Core.List.{List, [], _∷_}
 use mathlib.Core.Option.{none, some}
 use lib.ListN.{length, getD, getElem?}
 use Rattle.schedule.specs.Desk.{Pair}
-use Rattle.calls.specs.Planning.{nth}
+use Rattle.outcomes.specs.Planning.{nth}
 
 elem-in : (ps : List Pair) (i : ℕ) (q : Pair) → i < length ps → getElem? ps i ≡ some (getD ps i q)
 elem-in [] i q h = let z : ⊥ = omega arith in absurd z

@@ -13,7 +13,7 @@ use Rattle.schedule.proofs.Numbers.{length-count}
 use Rattle.refusals.specs.declared.Tested.the-variants as tested
 use Rattle.postings.specs.Posting.{postingTests}
 use Rattle.postings.proofs.Orders.{posting-order, order-posting}
-use Rattle.calls.specs.Planning.{Planning}
+use Rattle.outcomes.specs.Planning.{Planning}
 
 -- Latenesses are signed 32-bit numbers, the list is the list by its definition, and the orders for a bound are best.
 pub record Sound (g : Planning) : Type 0 where
