@@ -8,12 +8,12 @@ use Rattle.schedule.specs.Desk.{Pair}
 use Rattle.schedule.specs.Picks.{orderFor}
 use Rattle.schedule.specs.Plans.{plans}
 use Rattle.refusals.specs.Refusals.{byRange}
-use Rattle.calls.specs.Planning.{Outcome, gives, Planning}
-use Rattle.calls.specs.Calls.{listOutcome, planOutcome}
-use Rattle.calls.specs.declared.ListAnswer.{ListAnswer}
-use Rattle.calls.specs.declared.ListAnswer.the-variants as list-answer
-use Rattle.calls.specs.declared.OrderAnswer.{OrderAnswer}
-use Rattle.calls.specs.declared.OrderAnswer.the-variants as order-answer
+use Rattle.outcomes.specs.Planning.{Outcome, gives, Planning}
+use Rattle.outcomes.specs.Outcomes.{listOutcome, planOutcome}
+use Rattle.outcomes.specs.declared.ListAnswer.{ListAnswer}
+use Rattle.outcomes.specs.declared.ListAnswer.the-variants as list-answer
+use Rattle.outcomes.specs.declared.OrderAnswer.{OrderAnswer}
+use Rattle.outcomes.specs.declared.OrderAnswer.the-variants as order-answer
 use Rattle.running.specs.Running.{Running, jobIn}
 use Rattle.running.specs.Words.{running}
 use Rattle.rows_left.specs.Left.{plansHere}

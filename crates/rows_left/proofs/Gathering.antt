@@ -4,7 +4,7 @@ use Prim.Native.Nat.{ℕ, suc, _+_, _-_, _*_, _≤_, _<_}
 use native.Mathlib.Omega.{arith}
 use mathlib.Core.Bool.{Bool, _&&_}
 use mathlib.Core.Path.{_≡_, sym, ap, _∙_}
-use mathlib.Core.List.{List, map}
+use mathlib.Core.List.{List, map, List·Memᴰ}
 use lib.Dec.{leb}
 use lib.ListN.{length, getD, length-map, List·getD-map}
 use lib.Seq.{ext-getD}
@@ -27,7 +27,7 @@ use Rattle.running.proofs.Fits.{counted-at, row-held}
 use Rattle.rows_left.specs.declared.Left.{Left}
 use Rattle.rows_left.specs.Left.{plainLeft, plainRow, hasPassed, canPlan}
 use Rattle.rows_left.specs.Gathered.{leftAt, wordLeft, FitTested, Gathered}
-use Rattle.rows_left.proofs.LeftRows.{Rising, left-rising}
+use Rattle.rows_left.proofs.LeftRows.{Rising, left-rising, left-mem}
 
 -- The plain rows of a desk have the jobs of its rows left.
 pub plain-job : (d : Running) (k : ℕ) → job (plainLeft d) (suc k) ≡ jobIn (d .rows) (getD (d .left) k 0)
@@ -36,6 +36,15 @@ plain-job d k = ap jobOf (List·getD-map (λ (i : ℕ). plainRow (jobIn (d .rows
 -- The rows left are no more than the most rows of a desk.
 pub few-left : {ws : List ℕ} {n : ℕ} → IsDesk ws → n ≡ length (leftTo ws (countIn ws)) → n ≤ mostRows
 few-left {ws} desk counted = omega (arith, desk .count, left-rising ws (countIn ws) .few)
+
+-- The ranges of what the rows left have.
+pub left-ranged : {ws : List ℕ} → IsDesk ws → (i : ℕ) → List·Memᴰ i (leftTo ws (countIn ws)) →
+    (jobIn (rowsIn ws) i .release ≤ latestMinute) × (1 ≤ jobIn (rowsIn ws) i .length) ×
+    (jobIn (rowsIn ws) i .length ≤ longestLength) × (jobIn (rowsIn ws) i .due ≤ latestDue)
+left-ranged {ws} desk i m =
+    let r = left-mem ws (countIn ws) m in
+    let d = desk .rows i (r .0) (r .1) in
+    rw (row-held ws i (r .0) (r .1)) (d .0, d .1, d .2, d .3)
 
 module _ (ws : List ℕ) {n : ℕ} {rows : List ℕ} (counted : n ≡ length (leftTo ws (countIn ws)))
     (numbered : Filled rowPlaces (from 1) (leftAt ws) n rows) where

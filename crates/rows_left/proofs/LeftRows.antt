@@ -6,7 +6,8 @@ use native.Mathlib.Decide.{decLt}
 use native.Mathlib.Numerals.{add-one}
 use mathlib.Core.Bool.{Bool, true, false, cond}
 use mathlib.Core.Path.{_≡_, refl, sym, ap, _∙_, subst}
-use mathlib.Core.List.{List, [], _∷_, _++_}
+use mathlib.Core.List.{List, [], _∷_, _++_, List·Memᴰ, List·Memᴰ·not-nil, List·Memᴰ·append-cases, List·Memᴰ·eq-of-singleton}
+use mathlib.Core.Logic.{_⊎_, inl, inr}
 use lib.Dec.{eqb}
 use lib.ListN.{length, getD, set, length-append, List·getD-append}
 use lib.Seq.{getD-at}
@@ -74,6 +75,21 @@ left-rising ws (suc n) = step (eqb (at ws (marks + suc n)) 0) (left-rising ws n)
     step : (b : Bool) → Rising n (leftTo ws n) → Rising (suc n) (cond b (leftTo ws n ++ (suc n ∷ [])) (leftTo ws n))
     step true r = rising-more n (leftTo ws n) r
     step false r = rising-on n (leftTo ws n) r
+
+-- Each is one of these numbers.
+pub left-mem : (ws : List ℕ) (n : ℕ) {i : ℕ} → List·Memᴰ i (leftTo ws n) → (1 ≤ i) × (i ≤ n)
+unfolding leftTo
+left-mem ws zero m = absurd (List·Memᴰ·not-nil m)
+left-mem ws (suc n) {i} m = step (eqb (at ws (marks + suc n)) 0) (λ h. left-mem ws n h) m
+  where
+    last : (List·Memᴰ i (leftTo ws n) → (1 ≤ i) × (i ≤ n)) → List·Memᴰ i (leftTo ws n) ⊎ List·Memᴰ i (suc n ∷ []) → (1 ≤ i) × (i ≤ suc n)
+    last f (inl h) = omega (arith, f h)
+    last f (inr h) = omega (arith, List·Memᴰ·eq-of-singleton h)
+
+    step : (b : Bool) → (List·Memᴰ i (leftTo ws n) → (1 ≤ i) × (i ≤ n)) →
+        List·Memᴰ i (cond b (leftTo ws n ++ (suc n ∷ [])) (leftTo ws n)) → (1 ≤ i) × (i ≤ suc n)
+    step true f h = last f (List·Memᴰ·append-cases (leftTo ws n) h)
+    step false f h = omega (arith, f h)
 
 -- The rows left among the first i, m of them, are noted from place 1 on.
 abbrev pub NotedTo : (xs : List ℕ) (i m : ℕ) (rows : List ℕ) → Type 0
