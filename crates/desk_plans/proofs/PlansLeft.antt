@@ -230,5 +230,6 @@ module _ (ws : List ℕ) (left : Left) (r : Ready ws left) where
               subst ComesOf (sym (plan-is columns k q b e))
               (order-comes (q .late) (sym (plan-is desk k q b (there (some q) e)) ∙ plan-here k b))
 
-      pub plan-done : (answer : OrderAnswer) (after : List ℕ) → gives answer after ≡ planOutcome columns k b → Comes answer after
-      plan-done answer after e = subst ComesOf (sym e) plan-comes
+      pub plan-done : {answer told : OrderAnswer} (after : List ℕ) → gives answer after ≡ planOutcome columns k b → answer ≡ told →
+          Comes told after
+      plan-done after e f = subst (λ (a : OrderAnswer). Comes a after) f (subst ComesOf (sym e) plan-comes)

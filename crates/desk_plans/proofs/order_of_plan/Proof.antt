@@ -1,11 +1,10 @@
 use borrow.Author.Needs.{needs}
 use Prim.Native.Nat.{_≤_}
 use native.Mathlib.Omega.{arith}
-use mathlib.Core.Path.{sym, ap, _∙_, subst}
+use mathlib.Core.Path.{sym, _∙_}
 use borrow.Author.Tests.{not-true, not-false}
 use Rattle.outcomes.specs.Planning.{gives}
-use Rattle.outcomes.specs.declared.OrderAnswer.{OrderAnswer}
-use Rattle.desk_plans.proofs.PlansLeft.{Ready, ready, plan-refused, plan-none, plannable, Comes, plan-done}
+use Rattle.desk_plans.proofs.PlansLeft.{Ready, ready, plan-refused, plan-none, plannable, plan-done}
 use Rattle.desk_plans.proofs.order_of_plan.Statement.{statement}
 use Rattle.desk_plans.proofs.order_of_plan.Tie as tie
 use Rattle.desk_plans.proofs.order_of_plan.Reads as reads
@@ -43,23 +42,14 @@ same-length : tie.Need-same-length
 same-length c = search needs
 
 returns-3 : tie.Need-returns-3
-returns-3 c =
-    let w = here (c .before .before .before .before .before .before .before .before .before .before .before) in
-    let s = some-row (c .before .before .before .before .before .before .before .before .before .before .before) in
-    let b = c .before .before .before .before .before .before .before .before .before .before .before .before .before .before .before .before .before .args .result .now in
-    subst (λ (a : OrderAnswer). Comes _ _ w s (c .before .before .before .before .before .before .before .before .before .before .before .before .before .before .before .before .before .args .plan) b a _) (c .before .answer .given .1)
-    (plan-done _ _ w s (c .before .before .before .before .before .before .before .before .before .before .before .before .before .before .before .before .before .args .plan) b _ _ (c .before .before .before .before .before .plan-in .ensures))
+returns-3 c = plan-done _ _ (here (c .before .before .before .before .before .before .before .before .before .before .before)) (some-row (c .before .before .before .before .before .before .before .before .before .before .before)) _ _ _ (c .before .before .before .before .before .plan-in .ensures) (c .before .answer .given .1)
 
 enum-told : tie.Need-enum-told
 enum-told c = search needs
 
 put-rows-requires : tie.Need-put-rows-requires
 put-rows-requires c κs =
-    let w = here (c .before .before .before .before .before .before .before .before .before .before .before .before .before) in
-    let s = some-row (c .before .before .before .before .before .before .before .before .before .before .before .before .before) in
-    let b = c .before .before .before .before .before .before .before .before .before .before .before .before .before .before .before .before .before .before .before .args .result .now in
-    let p = subst (λ (a : OrderAnswer). Comes _ _ w s (c .before .before .before .before .before .before .before .before .before .before .before .before .before .before .before .before .before .before .before .args .plan) b a _) (c .before .before .before .enum-told .given .1)
-    (plan-done _ _ w s (c .before .before .before .before .before .before .before .before .before .before .before .before .before .before .before .before .before .before .before .args .plan) b _ _ (c .before .before .before .before .before .before .before .plan-in .ensures)) in
+    let p = plan-done _ _ (here (c .before .before .before .before .before .before .before .before .before .before .before .before .before)) (some-row (c .before .before .before .before .before .before .before .before .before .before .before .before .before)) _ _ _ (c .before .before .before .before .before .before .before .plan-in .ensures) (c .before .before .before .enum-told .given .1) in
     (p .0, p .1)
 
 same-length-2 : tie.Need-same-length-2
@@ -67,11 +57,7 @@ same-length-2 c = search needs
 
 returns-4 : tie.Need-returns-4
 returns-4 c =
-    let w = here (c .before .before .before .before .before .before .before .before .before .before .before .before .before .before .before .before) in
-    let s = some-row (c .before .before .before .before .before .before .before .before .before .before .before .before .before .before .before .before) in
-    let b = c .before .before .before .before .before .before .before .before .before .before .before .before .before .before .before .before .before .before .before .before .before .before .args .result .now in
-    let p = subst (λ (a : OrderAnswer). Comes _ _ w s (c .before .before .before .before .before .before .before .before .before .before .before .before .before .before .before .before .before .before .before .before .before .before .args .plan) b a _) (c .before .before .before .before .before .before .enum-told .given .1)
-    (plan-done _ _ w s (c .before .before .before .before .before .before .before .before .before .before .before .before .before .before .before .before .before .before .before .before .before .before .args .plan) b _ _ (c .before .before .before .before .before .before .before .before .before .before .plan-in .ensures)) in
+    let p = plan-done _ _ (here (c .before .before .before .before .before .before .before .before .before .before .before .before .before .before .before .before)) (some-row (c .before .before .before .before .before .before .before .before .before .before .before .before .before .before .before .before)) _ _ _ (c .before .before .before .before .before .before .before .before .before .before .plan-in .ensures) (c .before .before .before .before .before .before .enum-told .given .1) in
     (λ x. gives (c .before .before .before .before .before .before .enum-told .given .1 x) (c .before .before .put-rows .ensures x)) ∙ p .2
 
 pub order-of-plan-spec : {M : Type 1} → statement M
