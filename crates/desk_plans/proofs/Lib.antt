@@ -1,0 +1,3 @@
+pub mod RowsPut
+pub mod Sound
+pub mod PlansLeft

@@ -79,8 +79,7 @@ module _ (book ws : List ℕ) where
     where
       room : (day : Day) → readBy deskTerms book ≡ accepted day → Dec (deskWords ≤ length ws) → Kept (deskOpen book ws)
       room day e (yes h) =
-          subst Kept (sym (ap (told saidOpen) (open-yes book ws day e h)))
-          (
+          subst Kept (sym (ap (told saidOpen) (open-yes book ws day e h))) (
             lent-yes _ ws (written (openedWords day) ws) refl (opened-held day ws (accepted-day deskTerms book day e) h .2),
             written-past day e,
           )

@@ -49,7 +49,7 @@ use Rattle.open_desk.specs.Promise.{Lent, DeskProperty1, DeskProperty2, 
 use Rattle.open_desk.proofs.Standing.{job-held}
 use Rattle.open_desk.proofs.Starts.{Found, refuses, passes, found}
 use Rattle.open_desk.proofs.Histories.{start-none, start-no, start-yes, alone, State, first, leaves}
-use Rattle.open_desk.proofs.Refused as table·
+use Rattle.open_desk.proofs.Refused as refused
 use Rattle.open_desk.proofs.Memory.{open-kept, start-writes}
 
 -- A row that no start has taken is one of the rows.
@@ -85,169 +85,166 @@ module _ (day : Day) (a : AcceptedDay Ordering day) (done : List Start) where
       let top = latestDeskEnd - longestLength * n in
       let all : top + longestLength * n ≡ latestDeskEnd = omega arith in
       let r = in-range top 1 longestLength latestDue n (jobIn (d .rows)) (d .minute) (d .left)
-          (record {
-            early = omega arith;
-            few = omega arith;
-            ranges = λ i m.
-                let u = a .ranged i (left-row day done (rowNumbers day) i m) in
-                rw (job-held day i) (omega (arith, u .0), u .1, u .2, u .3);
-          }) some order o in
+      (record {
+        early = omega arith;
+        few = omega arith;
+        ranges = λ i m.
+            let u = a .ranged i (left-row day done (rowNumbers day) i m) in
+            rw (job-held day i) (omega (arith, u .0), u .1, u .2, u .3);
+      }) some order o in
       (omega (arith, r .0, all), subst (λ (e : ℕ). lateBy (planningLeft d) order ≤ℤ pos e) all (r .1), r .2)
 
-module _ (says : (d : Running) → (canPlan d ≡ true) ↔
-    ((d .minute + longestLength * length (d .left) ≤ latestDeskEnd) × Agreeing (jobIn (d .rows)) (d .left)))
-    (sound : (ws : List ℕ) → CanPlan ws → 0 < length (running ws .left) → Sound (planningLeft (running ws))) where
-  module _ (ws : List ℕ) where
-    abbrev g : Planning
-    g = planningLeft (running ws)
+module _ (ws : List ℕ) where
+  abbrev g : Planning
+  g = planningLeft (running ws)
 
-    -- # 1. The lent memory
-    list-buffer : (b : List ℕ) → memory.Kept b (deskList ws b)
-    list-buffer b = step (plansHere ws) refl
-      where
-        rows : CanPlan ws → (is : List ℕ) → running ws .left ≡ is → memory.Kept b (told saidList (listOutcome g b))
-        rows c [] e =
-            let none = table·.no-plans says sound ws e in
-            rw (list-is g b (omega (arith, ap (λ (js : List ℕ). length js) e)))
-            (memory.kept-yes (saidCount (length (g .plans))) (planWords (g .plans)) b refl
-            (omega (arith, plan-length (g .plans), ap (λ (ps : List Pair). length ps) none)))
-        rows c (i ∷ is) e = memory.list-kept g (sound ws c (omega (arith, ap (λ (js : List ℕ). length js) e))) b
+  -- # 1. The lent memory
+  list-buffer : (b : List ℕ) → memory.Kept b (deskList ws b)
+  list-buffer b = step (plansHere ws) refl
+    where
+      rows : CanPlan ws → (is : List ℕ) → running ws .left ≡ is → memory.Kept b (told saidList (listOutcome g b))
+      rows c [] e =
+          let none = refused.no-plans ws e in
+          rw (list-is g b (omega (arith, ap (λ (js : List ℕ). length js) e)))
+          (memory.kept-yes (saidCount (length (g .plans))) (planWords (g .plans)) b refl
+          (omega (arith, plan-length (g .plans), ap (λ (ps : List Pair). length ps) none)))
+      rows c (i ∷ is) e = memory.list-kept g (refused.sound ws c (omega (arith, ap (λ (js : List ℕ). length js) e))) b
 
-        step : (t : Bool) → plansHere ws ≡ t → memory.Kept b (deskList ws b)
-        step false e = rw (table·.list-away says sound ws e b) memory.kept-no
-        step true e = rw (table·.list-here says sound ws e b) (rows (table·.here says sound ws e) (running ws .left) refl)
+      step : (t : Bool) → plansHere ws ≡ t → memory.Kept b (deskList ws b)
+      step false e = rw (refused.list-away ws e b) memory.kept-no
+      step true e = rw (refused.list-here ws e b) (rows (refused.here ws e) (running ws .left) refl)
 
-    plan-buffer : (k : ℕ) (b : List ℕ) → memory.Kept b (deskPlan ws k b)
-    plan-buffer k b = step (plansHere ws) refl
-      where
-        rows : CanPlan ws → (is : List ℕ) → running ws .left ≡ is → memory.Kept b (told saidOrder (planOutcome g k b))
-        rows c [] e = rw (plan-unlisted g k b (table·.none-at says sound ws e k)) memory.kept-no
-        rows c (i ∷ is) e = memory.plan-kept g (sound ws c (omega (arith, ap (λ (js : List ℕ). length js) e))) k b
+  plan-buffer : (k : ℕ) (b : List ℕ) → memory.Kept b (deskPlan ws k b)
+  plan-buffer k b = step (plansHere ws) refl
+    where
+      rows : CanPlan ws → (is : List ℕ) → running ws .left ≡ is → memory.Kept b (told saidOrder (planOutcome g k b))
+      rows c [] e = rw (plan-unlisted g k b (refused.none-at ws e k)) memory.kept-no
+      rows c (i ∷ is) e = memory.plan-kept g (refused.sound ws c (omega (arith, ap (λ (js : List ℕ). length js) e))) k b
 
-        step : (t : Bool) → plansHere ws ≡ t → memory.Kept b (deskPlan ws k b)
-        step false e = rw (table·.plan-away says sound ws e k b) memory.kept-no
-        step true e = rw (table·.plan-here says sound ws e k b) (rows (table·.here says sound ws e) (running ws .left) refl)
+      step : (t : Bool) → plansHere ws ≡ t → memory.Kept b (deskPlan ws k b)
+      step false e = rw (refused.plan-away ws e k b) memory.kept-no
+      step true e = rw (refused.plan-here ws e k b) (rows (refused.here ws e) (running ws .left) refl)
 
-    list-numbers : (b : List ℕ) (n p : ℕ) → DeskTurned (CanPlan ws) (ListTurned g b) n p → (n ≡ 3) ⊎ (n ≡ 9)
-    list-numbers b _ _ (no-desk f) = inl refl
-    list-numbers b _ _ (by-call n p c (table.narrow h)) = inr refl
+  list-numbers : (b : List ℕ) (n p : ℕ) → DeskTurned (CanPlan ws) (ListTurned g b) n p → (n ≡ 3) ⊎ (n ≡ 9)
+  list-numbers b _ _ (no-desk f) = inl refl
+  list-numbers b _ _ (by-call n p c (table.narrow h)) = inr refl
 
-    plan-numbers : (k : ℕ) (b : List ℕ) (n p : ℕ) → DeskTurned (CanPlan ws) (PlanTurned g k b) n p → (n ≡ 3) ⊎ (n ≡ 9) ⊎ (n ≡ 11)
-    plan-numbers k b _ _ (no-desk f) = inl refl
-    plan-numbers k b _ _ (by-call n p c (table.unlisted f)) = inr (inr refl)
-    plan-numbers k b _ _ (by-call n p c (table.narrow f h l)) = inr (inl refl)
+  plan-numbers : (k : ℕ) (b : List ℕ) (n p : ℕ) → DeskTurned (CanPlan ws) (PlanTurned g k b) n p → (n ≡ 3) ⊎ (n ≡ 9) ⊎ (n ≡ 11)
+  plan-numbers k b _ _ (no-desk f) = inl refl
+  plan-numbers k b _ _ (by-call n p c (table.unlisted f)) = inr (inr refl)
+  plan-numbers k b _ _ (by-call n p c (table.narrow f h l)) = inr (inl refl)
 
-  pub desk-memory : DeskProperty1
-  desk-memory = record {
-    of-open = λ book ws. open-kept book ws .0;
-    of-start = λ ws i m. start-writes ws i m .0;
-    of-list = λ ws b. let k = list-buffer ws b in record {
-      number = λ h. list-numbers ws b _ _ (table·.list-refused says sound ws b _ _ .0 (h, refl, refl));
-      kept = k .refused;
-      same-length = k .same-length;
-    };
-    of-plan = λ ws k b. let u = plan-buffer ws k b in record {
-      number = λ h. plan-numbers ws k b _ _ (table·.plan-refused says sound ws k b _ _ .0 (h, refl, refl));
-      kept = u .refused;
-      same-length = u .same-length;
-    };
-    open-writes = λ book ws. open-kept book ws .1;
-    start-writes = λ ws i m. start-writes ws i m .1;
+pub desk-memory : DeskProperty1
+desk-memory = record {
+  of-open = λ book ws. open-kept book ws .0;
+  of-start = λ ws i m. start-writes ws i m .0;
+  of-list = λ ws b. let k = list-buffer ws b in record {
+    number = λ h. list-numbers ws b _ _ (refused.list-refused ws b _ _ .0 (h, refl, refl));
+    kept = k .refused;
+    same-length = k .same-length;
+  };
+  of-plan = λ ws k b. let u = plan-buffer ws k b in record {
+    number = λ h. plan-numbers ws k b _ _ (refused.plan-refused ws k b _ _ .0 (h, refl, refl));
+    kept = u .refused;
+    same-length = u .same-length;
+  };
+  open-writes = λ book ws. open-kept book ws .1;
+  start-writes = λ ws i m. start-writes ws i m .1;
+}
+
+-- # 2. The definitions
+pub desk-definitions : DeskProperty2
+desk-definitions = record {
+  open-refused = refused.open-turned;
+  start-refused = refused.start-turned;
+  list-refused = refused.list-refused;
+  plan-refused = refused.plan-refused;
+}
+
+-- # 3. The open desk: of words that hold the desk as starts on an accepted day have moved it
+module _ (day : Day) (a : AcceptedDay Ordering day) (first-words : List ℕ) (calls : List Call)
+    (s : State day (acceptedStarts first-words calls) (after first-words calls)) where
+  abbrev done : List Start
+  done = acceptedStarts first-words calls
+
+  abbrev words : List ℕ
+  words = after first-words calls
+
+  abbrev now-held : Running
+  now-held = standing day done
+
+  can : CanPlan words
+  can = record {
+    desk = s .desk;
+    room = subst (λ (d : Running). d .minute + longestLength * length (d .left) ≤ latestDeskEnd) (sym (s .held)) (s .room);
+    agree = subst (λ (d : Running). Agreeing (jobIn (d .rows)) (d .left)) (sym (s .held)) (agree day a done);
   }
 
-  -- # 2. The definitions
-  pub desk-definitions : DeskProperty2
-  desk-definitions = record {
-    open-refused = table·.open-turned;
-    start-refused = table·.start-turned;
-    list-refused = table·.list-refused says sound;
-    plan-refused = table·.plan-refused says sound;
+  desk : isDesk words ≡ true
+  desk = desk-says words .1 (s .desk)
+
+  -- What is said of the desk that the words hold is said of the desk after the starts.
+  held : (P : Running → Type 0) → P (running words) → P now-held
+  held P h = subst P (s .held) h
+
+  start-moves : (i m : ℕ) → deskStart words i m .answer .number ≡ 0 →
+      deskStart words i m .answer ≡ saidMoved (endAt now-held i m) (worstAt now-held i m)
+  start-moves i m accepted-it = step (found (running words) i m)
+    where
+      step : Found (running words) i m → deskStart words i m .answer ≡ saidMoved (endAt now-held i m) (worstAt now-held i m)
+      step (refuses n p l t u only) =
+          let no = ap (λ o. saidStart (o .answer) .number) (start-no words i m desk n p t) in
+          let z : ⊥ = omega (arith, accepted-it, no, l) in
+          absurd z
+      step (passes t never) =
+          ap (λ o. saidStart (o .answer)) (start-yes words i m desk t) ∙
+          ap (λ (d : Running). saidMoved (endAt d i m) (worstAt d i m)) (s .held)
+
+  list-covers : 0 < length (running words .left) → (b : List ℕ) → 2 * length (running words .left) ≤ length b →
+      Covered (planningLeft (running words)) (listed (deskList words b)) ×
+      PlanOrders (planningLeft (running words)) (listed (deskList words b)) (deskPlan words)
+  list-covers some b wide =
+      let g = planningLeft (running words) in
+      let ok = refused.sound words can some in
+      let here = refused.here-is words can in (
+        rw (refused.list-here words here b) (covered g ok b wide),
+        λ k p c. rw (refused.list-here words here b, refused.plan-here words here k c)
+            (plan-orders g ok b wide k p c),
+      )
+
+  none-left : running words .left ≡ [] → (b : List ℕ) → deskList words b .answer ≡ saidCount 0
+  none-left e b =
+      let g = planningLeft (running words) in
+      ap (λ o. saidList (o .answer)) (refused.list-here words (refused.here-is words can) b ∙
+      list-is g b (omega (arith, ap (λ (js : List ℕ). length js) e))) ∙
+      ap (λ (ps : List Pair). saidCount (length ps)) (refused.no-plans words e)
+
+  kept : Kept day first-words calls
+  kept = record {
+    word-for-word = sym (alone first-words calls);
+    holds = s .held;
+    start-refused = λ i m n p.
+        held (λ d. Refuses (deskStart words i m .answer) n p ↔ StartTurned d i m n p) (refused.start-own words i m desk n p);
+    start-moves = start-moves;
+    list-refused = λ b n p.
+        held (λ d. Refuses (deskList words b .answer) n p ↔ ListTurned (planningLeft d) b n p)
+        (refused.list-own words can b n p);
+    plan-refused = λ k b n p.
+        held (λ d. Refuses (deskPlan words k b .answer) n p ↔ PlanTurned (planningLeft d) k b n p)
+        (refused.plan-own words can k b n p);
+    covered = held (λ d. 0 < length (d .left) → (b : List ℕ) → 2 * length (d .left) ≤ length b →
+        Covered (planningLeft d) (listed (deskList words b)) ×
+        PlanOrders (planningLeft d) (listed (deskList words b)) (deskPlan words)) list-covers;
+    none-left = held (λ d. d .left ≡ [] → (b : List ℕ) → deskList words b .answer ≡ saidCount 0) none-left;
+    room = s .room;
+    ranges = in-time day a done (s .few) (s .room);
   }
 
-  -- # 3. The open desk: of words that hold the desk as starts on an accepted day have moved it
-  module _ (day : Day) (a : AcceptedDay Ordering day) (first-words : List ℕ) (calls : List Call)
-      (s : State day (acceptedStarts first-words calls) (after first-words calls)) where
-    abbrev done : List Start
-    done = acceptedStarts first-words calls
-
-    abbrev words : List ℕ
-    words = after first-words calls
-
-    abbrev now-held : Running
-    now-held = standing day done
-
-    can : CanPlan words
-    can = record {
-      desk = s .desk;
-      room = subst (λ (d : Running). d .minute + longestLength * length (d .left) ≤ latestDeskEnd) (sym (s .held)) (s .room);
-      agree = subst (λ (d : Running). Agreeing (jobIn (d .rows)) (d .left)) (sym (s .held)) (agree day a done);
-    }
-
-    desk : isDesk words ≡ true
-    desk = desk-says words .1 (s .desk)
-
-    -- What is said of the desk that the words hold is said of the desk after the starts.
-    held : (P : Running → Type 0) → P (running words) → P now-held
-    held P h = subst P (s .held) h
-
-    start-moves : (i m : ℕ) → deskStart words i m .answer .number ≡ 0 →
-        deskStart words i m .answer ≡ saidMoved (endAt now-held i m) (worstAt now-held i m)
-    start-moves i m accepted-it = step (found (running words) i m)
-      where
-        step : Found (running words) i m → deskStart words i m .answer ≡ saidMoved (endAt now-held i m) (worstAt now-held i m)
-        step (refuses n p l t u only) =
-            let no = ap (λ o. saidStart (o .answer) .number) (start-no words i m desk n p t) in
-            let z : ⊥ = omega (arith, accepted-it, no, l) in
-            absurd z
-        step (passes t never) =
-            ap (λ o. saidStart (o .answer)) (start-yes words i m desk t) ∙
-            ap (λ (d : Running). saidMoved (endAt d i m) (worstAt d i m)) (s .held)
-
-    list-covers : 0 < length (running words .left) → (b : List ℕ) → 2 * length (running words .left) ≤ length b →
-        Covered (planningLeft (running words)) (listed (deskList words b)) ×
-        PlanOrders (planningLeft (running words)) (listed (deskList words b)) (deskPlan words)
-    list-covers some b wide =
-        let g = planningLeft (running words) in
-        let ok = sound words can some in
-        let here = table·.here-is says sound words can in (
-          rw (table·.list-here says sound words here b) (covered g ok b wide),
-          λ k p c. rw (table·.list-here says sound words here b, table·.plan-here says sound words here k c)
-              (plan-orders g ok b wide k p c),
-        )
-
-    none-left : running words .left ≡ [] → (b : List ℕ) → deskList words b .answer ≡ saidCount 0
-    none-left e b =
-        let g = planningLeft (running words) in
-        ap (λ o. saidList (o .answer)) (table·.list-here says sound words (table·.here-is says sound words can) b ∙
-        list-is g b (omega (arith, ap (λ (js : List ℕ). length js) e))) ∙
-        ap (λ (ps : List Pair). saidCount (length ps)) (table·.no-plans says sound words e)
-
-    kept : Kept day first-words calls
-    kept = record {
-      word-for-word = sym (alone first-words calls);
-      holds = s .held;
-      start-refused = λ i m n p.
-          held (λ d. Refuses (deskStart words i m .answer) n p ↔ StartTurned d i m n p) (table·.start-own words i m desk n p);
-      start-moves = start-moves;
-      list-refused = λ b n p.
-          held (λ d. Refuses (deskList words b .answer) n p ↔ ListTurned (planningLeft d) b n p)
-          (table·.list-own says sound words can b n p);
-      plan-refused = λ k b n p.
-          held (λ d. Refuses (deskPlan words k b .answer) n p ↔ PlanTurned (planningLeft d) k b n p)
-          (table·.plan-own says sound words can k b n p);
-      covered = held (λ d. 0 < length (d .left) → (b : List ℕ) → 2 * length (d .left) ≤ length b →
-          Covered (planningLeft d) (listed (deskList words b)) ×
-          PlanOrders (planningLeft d) (listed (deskList words b)) (deskPlan words)) list-covers;
-      none-left = held (λ d. d .left ≡ [] → (b : List ℕ) → deskList words b .answer ≡ saidCount 0) none-left;
-      room = s .room;
-      ranges = in-time day a done (s .few) (s .room);
-    }
-
-  pub open-desk : OpenDesk
-  open-desk book ws day accepts-it wide =
-      let reads = accepts deskTerms book day .1 accepts-it in
-      let a = accepted-day deskTerms book day reads in
-      let opens = table·.open-yes book ws day reads wide in
-      let h = opened-held day ws a wide in
-      let begun = subst (State day []) (sym (ap (λ o. o .buffer) opens)) (first day a (written (openedWords day) ws) (h .0) (h .1)) in
-      (ap (λ o. saidOpen (o .answer)) opens, λ calls. kept day a (deskOpen book ws .buffer) calls (leaves day [] (deskOpen book ws .buffer) begun calls))
+pub open-desk : OpenDesk
+open-desk book ws day accepts-it wide =
+    let reads = accepts deskTerms book day .1 accepts-it in
+    let a = accepted-day deskTerms book day reads in
+    let opens = refused.open-yes book ws day reads wide in
+    let h = opened-held day ws a wide in
+    let begun = subst (State day []) (sym (ap (λ o. o .buffer) opens)) (first day a (written (openedWords day) ws) (h .0) (h .1)) in
+    (ap (λ o. saidOpen (o .answer)) opens, λ calls. kept day a (deskOpen book ws .buffer) calls (leaves day [] (deskOpen book ws .buffer) begun calls))

@@ -16,7 +16,7 @@ use Rattle.schedule.specs.declared.Profile.the-variants.{Ordering}
 use Rattle.schedule.specs.Cover.{Agreeing}
 use Rattle.schedule.specs.Desk.{Pair}
 use Rattle.schedule.specs.Rows.{Day}
-use Rattle.schedule.proofs.Tests.{false-is-true, is-true, parts, both}
+use Rattle.schedule.proofs.Tests.{false-is-true, is-true, true-is, parts}
 use Rattle.refusals.specs.declared.Tested.the-variants as tested
 use Rattle.refusals.specs.Refusals.{byRange, byNarrow, byUnlisted}
 use Rattle.book.specs.Rows.{refused, accepted}
@@ -38,18 +38,17 @@ use Rattle.running.specs.Running.{Running, jobIn, startTests}
 use Rattle.running.specs.Words.{deskWords, running, isDesk, IsDesk}
 use Rattle.running.proofs.Fits.{desk-says}
 use Rattle.rows_left.specs.Left.{canPlan, plansHere}
+use Rattle.rows_left.proofs.CanPlan.{can-plan-says}
+use Rattle.rows_left.proofs.Gathering.{left-ranged}
 use Rattle.desk_open.specs.declared.OpenAnswer.the-variants as open-answer
 use Rattle.desk_open.specs.Opens.{openedWords, deskTerms, openCall}
 use Rattle.desk_plans.specs.Plans.{plansFrom, planningLeft, listCall, planCall}
+use Rattle.desk_plans.proofs.Sound.{sound-left}
 use Rattle.open_desk.specs.Answers.{saidOpen, saidStart}
 use Rattle.open_desk.specs.History.{deskOpen, deskStart, deskList, deskPlan}
 use Rattle.open_desk.specs.Table.{OpenTurned, narrow, StartTurned, CanPlan, DeskTurned, no-desk, by-call}
 use Rattle.open_desk.proofs.Starts.{Found, refuses, passes, found}
 use Rattle.open_desk.proofs.Histories.{start-none, start-no, start-yes}
-
-true-is : (b : Bool) → T b → b ≡ true
-true-is true h = refl
-true-is false h = absurd h
 
 nth-none : (k : ℕ) → nth {A = Pair} [] k ≡ none
 nth-none zero = nth-zero []
@@ -130,88 +129,88 @@ module _ (ws : List ℕ) (i m : ℕ) where
       step true e = is-here (deskStart ws i m .answer) (IsDesk ws) (StartTurned (running ws) i m) (desk-says ws .0 e) (start-own e)
 
 -- # The list and an order
--- What the code tests of the rows left is what the table says, and where a row is left, what is planned is sound.
-module _ (says : (d : Running) → (canPlan d ≡ true) ↔
-    ((d .minute + longestLength * length (d .left) ≤ latestDeskEnd) × Agreeing (jobIn (d .rows)) (d .left)))
-    (sound : (ws : List ℕ) → CanPlan ws → 0 < length (running ws .left) → Sound (planningLeft (running ws))) where
-  module _ (ws : List ℕ) where
-    abbrev g : Planning
-    g = planningLeft (running ws)
+module _ (ws : List ℕ) where
+  abbrev g : Planning
+  g = planningLeft (running ws)
 
-    pub here : plansHere ws ≡ true → CanPlan ws
-    unfolding plansHere
-    here e =
-        let t = parts (isDesk ws) (canPlan (running ws)) (is-true _ e) in
-        let h = says (running ws) .0 (true-is _ (t .1)) in
-        record { desk = desk-says ws .0 (true-is _ (t .0)); room = h .0; agree = h .1 }
+  pub here : plansHere ws ≡ true → CanPlan ws
+  unfolding plansHere
+  here e =
+      let t = parts (isDesk ws) (canPlan (running ws)) (is-true _ e) in
+      let h = can-plan-says (running ws) .0 (true-is _ (t .1)) in
+      record { desk = desk-says ws .0 (true-is _ (t .0)); room = h .0; agree = h .1 }
 
-    pub here-is : CanPlan ws → plansHere ws ≡ true
-    unfolding plansHere
-    here-is c = rw (desk-says ws .1 (c .desk), says (running ws) .1 (c .room, c .agree))
+  pub here-is : CanPlan ws → plansHere ws ≡ true
+  unfolding plansHere
+  here-is c = rw (desk-says ws .1 (c .desk), can-plan-says (running ws) .1 (c .room, c .agree))
 
-    pub list-away : plansHere ws ≡ false → (b : List ℕ) → listCall ws b ≡ gives (list-answer.Refused byRange 0) b
-    unfolding listCall
-    list-away e b = rw (e, listCall)
+  -- Where a row is left, what is planned is sound.
+  pub sound : CanPlan ws → 0 < length (running ws .left) → Sound g
+  sound c some = sound-left (running ws) some (left-ranged (c .desk)) (can-plan-says (running ws) .1 (c .room, c .agree))
 
-    pub list-here : plansHere ws ≡ true → (b : List ℕ) → listCall ws b ≡ listOutcome g b
-    unfolding listCall
-    list-here e b = rw (e, listCall)
+  pub list-away : plansHere ws ≡ false → (b : List ℕ) → listCall ws b ≡ gives (list-answer.Refused byRange 0) b
+  unfolding listCall
+  list-away e b = rw (e, listCall)
 
-    pub plan-away : plansHere ws ≡ false → (k : ℕ) (b : List ℕ) → planCall ws k b ≡ gives (order-answer.Refused byRange 0) b
-    unfolding planCall
-    plan-away e k b = rw (e, planCall)
+  pub list-here : plansHere ws ≡ true → (b : List ℕ) → listCall ws b ≡ listOutcome g b
+  unfolding listCall
+  list-here e b = rw (e, listCall)
 
-    pub plan-here : plansHere ws ≡ true → (k : ℕ) (b : List ℕ) → planCall ws k b ≡ planOutcome g k b
-    unfolding planCall
-    plan-here e k b = rw (e, planCall)
+  pub plan-away : plansHere ws ≡ false → (k : ℕ) (b : List ℕ) → planCall ws k b ≡ gives (order-answer.Refused byRange 0) b
+  unfolding planCall
+  plan-away e k b = rw (e, planCall)
 
-    pub list-own : CanPlan ws → (b : List ℕ) (n p : ℕ) → Refuses (deskList ws b .answer) n p ↔ ListTurned g b n p
-    list-own c b = rw (list-here (here-is c) b) (list-turned g b)
+  pub plan-here : plansHere ws ≡ true → (k : ℕ) (b : List ℕ) → planCall ws k b ≡ planOutcome g k b
+  unfolding planCall
+  plan-here e k b = rw (e, planCall)
 
-    pub list-refused : (b : List ℕ) (n p : ℕ) → Refuses (deskList ws b .answer) n p ↔ DeskTurned (CanPlan ws) (ListTurned g b) n p
-    list-refused b = step (plansHere ws) refl
-      where
-        step : (t : Bool) → plansHere ws ≡ t → (n p : ℕ) →
-            Refuses (deskList ws b .answer) n p ↔ DeskTurned (CanPlan ws) (ListTurned g b) n p
-        step false e = not-here (deskList ws b .answer) (CanPlan ws) (ListTurned g b) (λ c. false-is-true (sym e ∙ here-is c))
-            (ap (λ o. saidList (o .answer)) (list-away e b))
-        step true e = is-here (deskList ws b .answer) (CanPlan ws) (ListTurned g b) (here e) (list-own (here e) b)
+  pub list-own : CanPlan ws → (b : List ℕ) (n p : ℕ) → Refuses (deskList ws b .answer) n p ↔ ListTurned g b n p
+  list-own c b = rw (list-here (here-is c) b) (list-turned g b)
 
-    -- With no row left, no plan has a number.
-    pub no-plans : running ws .left ≡ [] → g .plans ≡ []
-    unfolding plansFrom
-    no-plans e = ap (plansFrom (jobIn (running ws .rows)) (running ws .minute)) e
+  pub list-refused : (b : List ℕ) (n p : ℕ) → Refuses (deskList ws b .answer) n p ↔ DeskTurned (CanPlan ws) (ListTurned g b) n p
+  list-refused b = step (plansHere ws) refl
+    where
+      step : (t : Bool) → plansHere ws ≡ t → (n p : ℕ) →
+          Refuses (deskList ws b .answer) n p ↔ DeskTurned (CanPlan ws) (ListTurned g b) n p
+      step false e = not-here (deskList ws b .answer) (CanPlan ws) (ListTurned g b) (λ c. false-is-true (sym e ∙ here-is c))
+          (ap (λ o. saidList (o .answer)) (list-away e b))
+      step true e = is-here (deskList ws b .answer) (CanPlan ws) (ListTurned g b) (here e) (list-own (here e) b)
 
-    pub none-at : running ws .left ≡ [] → (k : ℕ) → nth (g .plans) k ≡ none
-    none-at e k = ap (λ (ps : List Pair). nth ps k) (no-plans e) ∙ nth-none k
+  -- With no row left, no plan has a number.
+  pub no-plans : running ws .left ≡ [] → g .plans ≡ []
+  unfolding plansFrom
+  no-plans e = ap (plansFrom (jobIn (running ws .rows)) (running ws .minute)) e
 
-    plan-none : running ws .left ≡ [] → (k : ℕ) (b : List ℕ) (n p : ℕ) →
-        Refuses (saidOrder (planOutcome g k b .answer)) n p ↔ PlanTurned g k b n p
-    plan-none e k b =
-        says-no (saidOrder (planOutcome g k b .answer)) (PlanTurned g k b) byUnlisted (length (g .plans)) (omega arith)
-        (ap (λ o. saidOrder (o .answer)) (plan-unlisted g k b (none-at e k))) (table.unlisted unlisted) only
-      where
-        unlisted : ¬ ((1 ≤ k) × (k ≤ length (g .plans)))
-        unlisted h = omega (arith, h, ap (λ (ps : List Pair). length ps) (no-plans e))
+  pub none-at : running ws .left ≡ [] → (k : ℕ) → nth (g .plans) k ≡ none
+  none-at e k = ap (λ (ps : List Pair). nth ps k) (no-plans e) ∙ nth-none k
 
-        only : (n p : ℕ) → PlanTurned g k b n p → (byUnlisted ≡ n) × (length (g .plans) ≡ p)
-        only _ _ (table.unlisted f) = (refl, refl)
-        only _ _ (table.narrow f h l) = absurd (unlisted (f, h))
+  plan-none : running ws .left ≡ [] → (k : ℕ) (b : List ℕ) (n p : ℕ) →
+      Refuses (saidOrder (planOutcome g k b .answer)) n p ↔ PlanTurned g k b n p
+  plan-none e k b =
+      says-no (saidOrder (planOutcome g k b .answer)) (PlanTurned g k b) byUnlisted (length (g .plans)) (omega arith)
+      (ap (λ o. saidOrder (o .answer)) (plan-unlisted g k b (none-at e k))) (table.unlisted unlisted) only
+    where
+      unlisted : ¬ ((1 ≤ k) × (k ≤ length (g .plans)))
+      unlisted h = omega (arith, h, ap (λ (ps : List Pair). length ps) (no-plans e))
 
-    pub plan-own : CanPlan ws → (k : ℕ) (b : List ℕ) (n p : ℕ) → Refuses (deskPlan ws k b .answer) n p ↔ PlanTurned g k b n p
-    plan-own c k b = rw (plan-here (here-is c) k b) (step (running ws .left) refl)
-      where
-        step : (is : List ℕ) → running ws .left ≡ is → (n p : ℕ) →
-            Refuses (saidOrder (planOutcome g k b .answer)) n p ↔ PlanTurned g k b n p
-        step [] e = plan-none e k b
-        step (i ∷ is) e = plan-turned g (sound ws c (omega (arith, ap (λ (js : List ℕ). length js) e))) k b
+      only : (n p : ℕ) → PlanTurned g k b n p → (byUnlisted ≡ n) × (length (g .plans) ≡ p)
+      only _ _ (table.unlisted f) = (refl, refl)
+      only _ _ (table.narrow f h l) = absurd (unlisted (f, h))
 
-    pub plan-refused : (k : ℕ) (b : List ℕ) (n p : ℕ) →
-        Refuses (deskPlan ws k b .answer) n p ↔ DeskTurned (CanPlan ws) (PlanTurned g k b) n p
-    plan-refused k b = step (plansHere ws) refl
-      where
-        step : (t : Bool) → plansHere ws ≡ t → (n p : ℕ) →
-            Refuses (deskPlan ws k b .answer) n p ↔ DeskTurned (CanPlan ws) (PlanTurned g k b) n p
-        step false e = not-here (deskPlan ws k b .answer) (CanPlan ws) (PlanTurned g k b) (λ c. false-is-true (sym e ∙ here-is c))
-            (ap (λ o. saidOrder (o .answer)) (plan-away e k b))
-        step true e = is-here (deskPlan ws k b .answer) (CanPlan ws) (PlanTurned g k b) (here e) (plan-own (here e) k b)
+  pub plan-own : CanPlan ws → (k : ℕ) (b : List ℕ) (n p : ℕ) → Refuses (deskPlan ws k b .answer) n p ↔ PlanTurned g k b n p
+  plan-own c k b = rw (plan-here (here-is c) k b) (step (running ws .left) refl)
+    where
+      step : (is : List ℕ) → running ws .left ≡ is → (n p : ℕ) →
+          Refuses (saidOrder (planOutcome g k b .answer)) n p ↔ PlanTurned g k b n p
+      step [] e = plan-none e k b
+      step (i ∷ is) e = plan-turned g (sound c (omega (arith, ap (λ (js : List ℕ). length js) e))) k b
+
+  pub plan-refused : (k : ℕ) (b : List ℕ) (n p : ℕ) →
+      Refuses (deskPlan ws k b .answer) n p ↔ DeskTurned (CanPlan ws) (PlanTurned g k b) n p
+  plan-refused k b = step (plansHere ws) refl
+    where
+      step : (t : Bool) → plansHere ws ≡ t → (n p : ℕ) →
+          Refuses (deskPlan ws k b .answer) n p ↔ DeskTurned (CanPlan ws) (PlanTurned g k b) n p
+      step false e = not-here (deskPlan ws k b .answer) (CanPlan ws) (PlanTurned g k b) (λ c. false-is-true (sym e ∙ here-is c))
+          (ap (λ o. saidOrder (o .answer)) (plan-away e k b))
+      step true e = is-here (deskPlan ws k b .answer) (CanPlan ws) (PlanTurned g k b) (here e) (plan-own (here e) k b)

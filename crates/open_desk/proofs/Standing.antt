@@ -15,7 +15,7 @@ use borrow.Author.Tests.{eqb-true, eqb-false, eq-eqb, ne-eqb}
 use Rattle.schedule.specs.declared.Row.{Row}
 use Rattle.schedule.specs.Rows.{noRow, jobOf, job, Day, jobs, countFrom, rowNumbers, stands, without}
 use Rattle.schedule.specs.Desk.{maxZ, worstOf}
-use Rattle.schedule.proofs.Tests.{false-is-true, is-true, is-false}
+use Rattle.schedule.proofs.Tests.{false-is-true, true-is, is-true, true-is, is-false}
 use Rattle.schedule.proofs.Signed.{leZ-trans, leZ-total}
 use Rattle.schedule.proofs.Stands.{stands-behind}
 use Rattle.running.specs.Running.{Running, opened, noJob, jobIn, worse, moved, endAt, worstAt}
@@ -35,10 +35,6 @@ none-taken day (i ∷ is) = ap (λ (js : List ℕ). i ∷ js) (none-taken day is
 pub at-first : (day : Day) → standing day [] ≡ opened day
 unfolding minuteAfter worstSoFar
 at-first day = rw (none-taken day (rowNumbers day))
-
-true-is : (b : Bool) → T b → b ≡ true
-true-is true h = refl
-true-is false h = absurd h
 
 -- The larger of three signed numbers, taken either way.
 max-assoc : (a b c : ℤ) → maxZ a (maxZ b c) ≡ maxZ (maxZ a b) c

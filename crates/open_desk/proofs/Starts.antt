@@ -4,15 +4,15 @@ use Prim.Native.Nat.{ℕ, _≤_, _<_}
 use native.Mathlib.Omega.{arith}
 use mathlib.Core.Bool.{Bool, true, false, not, _||_}
 use mathlib.Core.Path.{_≡_, refl, sym, _∙_}
-use mathlib.Core.List.{List, [], _∷_, List·Memᴰ, List·Memᴰ·head, List·Memᴰ·tail}
+use mathlib.Core.List.{List·Memᴰ}
 use mathlib.Core.Logic.{_⊎_, inl, inr}
-use lib.Dec.{T, ltb, eqb}
+use lib.Dec.{T, ltb}
 use lib.ListN.{length}
-use borrow.Author.Tests.{ltb-true, ltb-false, eq-eqb}
+use borrow.Author.Tests.{ltb-true, ltb-false}
 use Rattle.schedule.specs.Limits.{latestStart}
 use Rattle.schedule.specs.Rows.{stands}
-use Rattle.schedule.proofs.Tests.{false-is-true, is-true, or-cases, neither}
-use Rattle.schedule.proofs.Stands.{stands-more, stands-mem}
+use Rattle.schedule.proofs.Tests.{false-is-true, true-is, is-true, true-is, or-cases, neither}
+use Rattle.schedule.proofs.Stands.{stands-mem, mem-stands}
 use Rattle.refusals.specs.declared.Tested.{Tested}
 use Rattle.refusals.specs.declared.Tested.the-variants as tested
 use Rattle.refusals.specs.Refusals.{byUnlisted, byDone, byEarly}
@@ -20,18 +20,6 @@ use Rattle.refusals.specs.Tests.{refuseIf, _then_}
 use Rattle.running.specs.Running.{Running, between, jobIn, startTests}
 use Rattle.running.proofs.Fits.{lies, between-two}
 use Rattle.open_desk.specs.Table.{StartTurned, unlisted, done, early}
-
-true-is : (b : Bool) → T b → b ≡ true
-true-is true h = refl
-true-is false h = absurd h
-
-or-true : (b : Bool) → (b || true) ≡ true
-or-true true = refl
-or-true false = refl
-
-mem-stands : (n : ℕ) (ms : List ℕ) → List·Memᴰ n ms → stands n ms ≡ true
-mem-stands n (m ∷ ms) (List·Memᴰ·head e) = rw (stands-more n m ms, eq-eqb n m e)
-mem-stands n (m ∷ ms) (List·Memᴰ·tail t) = rw (stands-more n m ms, mem-stands n ms t) (or-true (eqb n m))
 
 -- How the tests of a start come out: by one refusal, and the table has it and no other; or they are passed, and the table has none.
 pub data Found (d : Running) (i m : ℕ) : Type 0 where

@@ -10,15 +10,11 @@ use mathlib.Core.List.{List}
 use lib.ListN.{length, take, getD}
 use Rattle.schedule.specs.declared.Row.{Row}
 use Rattle.schedule.specs.Rows.{noRow}
-use Rattle.schedule.proofs.Tests.{neither}
+use Rattle.schedule.proofs.Tests.{neither, or-true}
 use Rattle.refusals.specs.declared.Tested.the-variants.{Passed, Refused}
 use Rattle.pairs.specs.Pairs.{someEntry, numberWord, pairTests}
 use Rattle.pairs.specs.Columns.{placesClash, anyClashes, someClash, Columned, ColumnsTested}
 use Rattle.pairs.proofs.Scans.{some-on, pairsAt, pairs-here, pairs-on, pairs-end}
-
-or-true : (b : Bool) → (b || true) ≡ true
-or-true true = refl
-or-true false = refl
 
 -- Row i against no row, and against one row more, j.
 module _ (dues seconds : List ℕ) (i : ℕ) where

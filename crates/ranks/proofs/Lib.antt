@@ -1,4 +1,3 @@
 pub mod Sorting
-pub mod Filling
 pub mod Keyed
 pub mod Ranking

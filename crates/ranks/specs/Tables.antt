@@ -1,9 +1,8 @@
 -- The working tables of a call: the rows by rank, their columns in that order, and the ranks by release.
 -- Rests on: the schedule's columns and ranks.
-use Prim.Native.Nat.{ℕ, _+_, _≤_, _<_}
+use Prim.Native.Nat.{ℕ, _≤_}
 use mathlib.Core.List.{List}
 use mathlib.Core.Path.{_≡_}
-use lib.ListN.{length}
 use Rattle.schedule.specs.Columns.{at, columns}
 use Rattle.schedule.specs.Ranks.{ByRank, ByRelease}
 
@@ -11,16 +10,6 @@ use Rattle.schedule.specs.Ranks.{ByRank, ByRelease}
 pub record Ranked (n : ℕ) (rows column ranked : List ℕ) : Type 0 where
   pub each : (k : ℕ) → 1 ≤ k → k ≤ n → at ranked k ≡ at column (at rows k)
   pub within : (m : ℕ) → ((k : ℕ) → at column k ≤ m) → (k : ℕ) → at ranked k ≤ m
-
--- The first k of the places are filled, and the rest of the table holds 0: what bounds the filled places bounds all.
-pub record Filled (size : ℕ) (place what : ℕ → ℕ) (k : ℕ) (table : List ℕ) : Type 0 where
-  pub sized : length table ≡ size
-  pub filled : (m : ℕ) → m < k → at table (place m) ≡ what m
-  pub within : (bound : ℕ) → ((m : ℕ) → m < k → what m ≤ bound) → (p : ℕ) → at table p ≤ bound
-
--- Places counted from the first one on.
-abbrev pub from : ℕ → ℕ → ℕ
-from first m = m + first
 
 -- The tables of the rows 1 to n in the columns `release`, `minutes` and `due`.
 pub record Tabled (n : ℕ) (release minutes due rows releases lengths dues by : List ℕ) : Type 0 where

@@ -3,11 +3,11 @@
 use Prim.Native.Nat.{ℕ, _+_, _≤_, _<_}
 use native.Mathlib.Omega.{arith}
 use mathlib.Core.Bool.{Bool, true, false, _&&_, and-comm, or-comm}
-use mathlib.Core.Path.{_≡_, sym, ap, _∙_}
+use mathlib.Core.Path.{_≡_, refl, sym, ap, _∙_}
 use mathlib.Core.List.{List}
 use lib.Dec.{ltb}
 use lib.Signed.{ltZ}
-use borrow.Author.Tests.{ltb-false, le-ltb, lt-ltb}
+use borrow.Author.Tests.{ltb-true, ltb-false, le-ltb, lt-ltb}
 use Rattle.schedule.specs.Limits.{latestMinute, longestLength, latestDue}
 use Rattle.schedule.specs.declared.Row.{Row}
 use Rattle.schedule.specs.declared.Profile.{Profile}
@@ -85,3 +85,33 @@ pub obeys : (profile : Profile) (rows : List Row) → NoneClash (clashBy profile
 unfolding clashBy
 obeys Ordering rows h = λ i j m n. agrees (row rows i) (row rows j) (h i j m n)
 obeys FirstCome rows h = λ i j m n. uncrossed (row rows i) (row rows j) (h i j m n)
+
+-- And back: rows that keep the rule do not clash.
+not-tighter : (r s : Row) → (r .due < s .due → r .release + r .length + s .due ≤ s .release + s .length + r .due) → tighter r s ≡ false
+unfolding tighter
+not-tighter r s h = step (ltb (r .due) (s .due)) refl
+  where
+    step : (b : Bool) → ltb (r .due) (s .due) ≡ b → (ltb (r .due) (s .due) && ltZ (spare r) (spare s)) ≡ false
+    step true e =
+        let g = h (ltb-true (r .due) (s .due) e) in
+        rw (
+          e,
+          ltZ-sums (r .due) (r .release + r .length) (s .due) (s .release + s .length),
+          le-ltb (r .due + (s .release + s .length)) (s .due + (r .release + r .length)) (omega arith),
+        )
+    step false e = rw e
+
+not-outlasts : (r s : Row) → (r .release < s .release → r .due ≤ s .due) → outlasts r s ≡ false
+unfolding outlasts
+not-outlasts r s h = step (ltb (r .release) (s .release)) refl
+  where
+    step : (b : Bool) → ltb (r .release) (s .release) ≡ b → (ltb (r .release) (s .release) && ltb (s .due) (r .due)) ≡ false
+    step true e = rw (e, le-ltb (s .due) (r .due) (h (ltb-true (r .release) (s .release) e)))
+    step false e = rw e
+
+pub unclashing : (profile : Profile) (rows : List Row) → Obeys profile (job rows) (allRows rows) → NoneClash (clashBy profile) rows
+unfolding clashBy disagree cross
+unclashing Ordering rows h i j m n =
+    rw (not-tighter (row rows i) (row rows j) (h i j m n), not-tighter (row rows j) (row rows i) (h j i n m))
+unclashing FirstCome rows h i j m n =
+    rw (not-outlasts (row rows i) (row rows j) (h i j m n), not-outlasts (row rows j) (row rows i) (h j i n m))

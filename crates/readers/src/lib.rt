@@ -53,7 +53,7 @@ fn second_of(profile: Profile, release: u32, minutes: u32, due: u32) -> u32
 }
 
 // The rule of the profile, of the rows in columns: the pair test of the dues and the second numbers.
-fn rule_tests<'a>(
+pub fn rule_tests<'a>(
     profile: Profile,
     release: &'a [u32; Desk::PLACES],
     minutes: &'a [u32; Desk::PLACES],

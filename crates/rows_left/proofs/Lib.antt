@@ -1,0 +1,3 @@
+pub mod LeftRows
+pub mod Gathering
+pub mod CanPlan

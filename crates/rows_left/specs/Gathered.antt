@@ -1,29 +1,42 @@
 -- The rows left of a lent desk, numbered anew from 1 on as they stand, and in columns: what `look` gives. Only contracts cite it.
--- Rests on: Left, the words of a desk, the rows in columns.
-use Prim.Native.Nat.{ℕ, _+_, _≤_, _<_}
-use mathlib.Core.Bool.{true}
+-- Rests on: Left, the words of a desk, tables filled place by place.
+use Prim.Native.Nat.{ℕ, _+_, _*_, _≤_}
+use mathlib.Core.Bool.{Bool, true, _&&_}
 use mathlib.Core.Path.{_≡_}
 use mathlib.Core.List.{List}
+use lib.Dec.{leb}
 use lib.ListN.{length, getD}
-use Rattle.schedule.specs.Limits.{mostRows, rowPlaces, latestMinute, longestLength, latestDue}
+use Rattle.theory.specs.Jobs.{Job}
+use Rattle.schedule.specs.Limits.{rowPlaces, longestLength, latestDeskEnd}
+use Rattle.schedule.specs.declared.Row.{Row}
+use Rattle.schedule.specs.declared.Profile.the-variants.{Ordering}
+use Rattle.schedule.specs.Rows.{job}
 use Rattle.schedule.specs.Columns.{at}
-use Rattle.rows.specs.InColumns.{jobsOf, Within}
-use Rattle.running.specs.Words.{countIn, jobAt, leftTo}
+use Rattle.schedule.specs.Filled.{Filled, from}
+use Rattle.readers.specs.Rules.{ruleTests}
+use Rattle.running.specs.Words.{countIn, releases, lengths, dues, leftTo}
 use Rattle.rows_left.specs.declared.Left.{Left}
-use Rattle.rows_left.specs.Left.{plansHere}
+use Rattle.rows_left.specs.Left.{hasPassed, plansHere}
 
--- Place k from 1 on has the k-th of the rows left, in `rows` its number and in the columns its job.
+-- The rows left, counted from 0; and what rows of these numbers, which stand from place 1 on, have in a column of the desk.
+abbrev pub leftAt : List ℕ → ℕ → ℕ
+leftAt ws k = getD (leftTo ws (countIn ws)) k 0
+
+abbrev pub wordLeft : (ws : List ℕ) (before : ℕ) (rows : List ℕ) → ℕ → ℕ
+wordLeft ws before rows k = at ws (before + at rows (k + 1))
+
+-- What the test of rows in columns answers, from a minute on: that of any rows that have these jobs.
+abbrev pub FitTested : (minute : ℕ) → (ℕ → Job) → (count : ℕ) → Bool → Type 0
+FitTested minute jobs count b = (rows : List Row) → length rows ≡ count → ((i : ℕ) → 1 ≤ i → i ≤ count → jobs i ≡ job rows i) →
+    b ≡ (leb (minute + longestLength * count) latestDeskEnd && hasPassed (ruleTests Ordering rows))
+
+-- Place k from 1 on has the k-th of the rows left, in `rows` its number and in the columns what the desk has of it.
 pub record Gathered (ws : List ℕ) (left : Left) : Type 0 where
   pub counted : left .count ≡ length (leftTo ws (countIn ws))
-  pub few : left .count ≤ mostRows
-  pub numbers : (k : ℕ) → k < left .count → at (left .rows) (k + 1) ≡ getD (leftTo ws (countIn ws)) k 0
-  pub small : (k : ℕ) → at (left .rows) k ≤ mostRows
-  pub places : length (left .rows) ≡ rowPlaces
-  pub jobs : (k : ℕ) → 1 ≤ k → k ≤ left .count → jobsOf (left .columns) k ≡ jobAt ws (at (left .rows) k)
-  pub within : (k : ℕ) → Within latestMinute longestLength latestDue (jobsOf (left .columns) k)
-  pub releases : length (left .columns .release) ≡ rowPlaces
-  pub lengths : length (left .columns .length) ≡ rowPlaces
-  pub dues : length (left .columns .due) ≡ rowPlaces
+  pub numbered : Filled rowPlaces (from 1) (leftAt ws) (left .count) (left .rows)
+  pub released : Filled rowPlaces (from 1) (wordLeft ws releases (left .rows)) (left .count) (left .columns .release)
+  pub timed : Filled rowPlaces (from 1) (wordLeft ws lengths (left .rows)) (left .count) (left .columns .length)
+  pub dated : Filled rowPlaces (from 1) (wordLeft ws dues (left .rows)) (left .count) (left .columns .due)
 
 -- The whole answer of a look at lent words: whether the rows left can be planned, and if so, these rows.
 pub record Looked (ws : List ℕ) (left : Left) : Type 0 where

@@ -16,14 +16,10 @@ use Rattle.schedule.specs.Limits.{mostRows, latestMinute, longestLength, latest
 use Rattle.schedule.specs.Rows.{countFrom}
 use Rattle.schedule.specs.Columns.{at}
 use Rattle.schedule.proofs.Numbers.{length-count}
-use Rattle.schedule.proofs.Tests.{both, parts, or-cases, or-left, or-right, is-true}
+use Rattle.schedule.proofs.Tests.{both, parts, or-cases, or-left, or-right, is-true, true-is}
 use Rattle.running.specs.Running.{between, noJob, jobIn}
 use Rattle.running.specs.Words.{deskWords, countIn, minuteIn, worstIn, releases, lengths, dues, marks, jobAt, rowsIn}
 use Rattle.running.specs.Words.{columnFits, rowsFit, headFits, isDesk, IsDesk, leastRaised, mostRaised}
-
-true-is : (b : Bool) → T b → b ≡ true
-true-is true h = refl
-true-is false h = absurd h
 
 is-zero : (n : ℕ) → T (eqb n 0) → n ≡ 0
 is-zero n h = eqb-true n 0 (true-is _ h)

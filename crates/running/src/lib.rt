@@ -41,7 +41,7 @@ impl Layout {
     const MOST_RAISED: u32 = 2_167_513_648;
 
     // The longest length of a row.
-    const LONGEST: u32 = 30_000;
+    pub const LONGEST: u32 = 30_000;
 }
 
 // A number lies between two others. Both sides are worked out: columns are tested without a branch.

@@ -25,3 +25,4 @@ pub mod Renumbered
 pub mod Raised
 pub mod SameJobs
 pub mod Stands
+pub mod Filling

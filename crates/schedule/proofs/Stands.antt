@@ -1,4 +1,4 @@
--- Whether a number stands among others: none, one more in front, one more behind. A number that stands in a list is a member of it.
+-- Whether a number stands among others: none, one more in front, one more behind. A number stands in a list exactly if it is a member of it.
 -- Assumes nothing.
 use Prim.Native.Nat.{ℕ, _+_, _<_}
 use native.Mathlib.Numerals.{add-one}
@@ -8,9 +8,9 @@ use mathlib.Core.List.{List, [], _∷_, _++_, List·Memᴰ, List·Memᴰ·head, 
 use lib.Dec.{eqb}
 use lib.ListN.{length, take, getD}
 use lib.Seq.{take-suc}
-use borrow.Author.Tests.{eqb-true}
+use borrow.Author.Tests.{eqb-true, eq-eqb}
 use Rattle.schedule.specs.Rows.{stands}
-use Rattle.schedule.proofs.Tests.{false-is-true}
+use Rattle.schedule.proofs.Tests.{false-is-true, or-true}
 
 pub stands-none : (n : ℕ) → stands n [] ≡ false
 unfolding stands
@@ -36,3 +36,7 @@ stands-mem n (m ∷ ms) e = go (eqb n m) refl e (stands-mem n ms)
     go : (b : Bool) → eqb n m ≡ b → (b || stands n ms) ≡ true → (stands n ms ≡ true → List·Memᴰ n ms) → List·Memᴰ n (m ∷ ms)
     go true q e f = List·Memᴰ·head (eqb-true n m q)
     go false q e f = List·Memᴰ·tail (f e)
+
+pub mem-stands : (n : ℕ) (ms : List ℕ) → List·Memᴰ n ms → stands n ms ≡ true
+mem-stands n (m ∷ ms) (List·Memᴰ·head e) = rw (stands-more n m ms, eq-eqb n m e)
+mem-stands n (m ∷ ms) (List·Memᴰ·tail t) = rw (stands-more n m ms, mem-stands n ms t) (or-true (eqb n m))

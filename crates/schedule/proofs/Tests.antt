@@ -1,4 +1,4 @@
--- Tests taken false-is-true and put together; what a comparison says.
+-- Tests taken apart and put together; what a comparison says.
 -- Assumes nothing.
 use Prim.Native.Nat.{ℕ, zero, suc, _<_, compare, Ordering, Ordering·lt, Ordering·eq, Ordering·gt, compare·zero-zero, compare·zero-suc}
 use Prim.Native.Nat.{compare·suc-zero, compare·suc-suc}
@@ -32,6 +32,10 @@ pub or-right : (a b : Bool) → T b → T (a || b)
 or-right true b t = tt
 or-right false b t = t
 
+pub or-true : (b : Bool) → (b || true) ≡ true
+or-true true = refl
+or-true false = refl
+
 pub or-second : (a b : Bool) → T (a || b) → ¬ T a → T b
 or-second true b t n = absurd (n tt)
 or-second false b t n = t
@@ -50,6 +54,10 @@ neither false b e = (refl, e)
 
 pub is-true : (b : Bool) → b ≡ true → T b
 is-true b e = rw e tt
+
+pub true-is : (b : Bool) → T b → b ≡ true
+true-is true t = refl
+true-is false t = absurd t
 
 pub is-false : (b : Bool) → b ≡ false → T (not b)
 is-false b e = rw e tt

@@ -9,4 +9,5 @@ pub mod Profiles
 pub mod Ranges
 pub mod Offset
 pub mod Columns
+pub mod Filled
 pub mod Ranks
