@@ -31,7 +31,7 @@ tests() {
 }
 
 example() {
-    cargo run --release --offline --quiet --manifest-path "$top/host/Cargo.toml" --example day
+    cargo run --release --offline --quiet --manifest-path "$top/host/Cargo.toml" --example "$1"
 }
 
 # compile NAME FLAGS...: host/c/NAME.c with the archive.
@@ -46,7 +46,7 @@ c_program() {
 }
 
 checked() {
-    compile example -O1 -g && timeout 300 valgrind -q --error-exitcode=9 "$out/example" >/dev/null
+    compile "$1" -O1 -g && timeout 300 valgrind -q --error-exitcode=9 "$out/$1" >/dev/null
 }
 
 cplusplus() {
@@ -55,10 +55,17 @@ cplusplus() {
 }
 
 step 'cargo test' tests
-step 'Rust example' example
+step 'Rust example' example day
+step 'Rust example of a morning' example morning
 step 'C example' c_program example
+step 'C example of a morning' c_program morning
 step 'C guard pages' c_program guard_pages
-if command -v valgrind >/dev/null; then step 'C example under valgrind' checked; else echo '== valgrind is not there: not run'; fi
+if command -v valgrind >/dev/null; then
+    step 'C example under valgrind' checked example
+    step 'C example of a morning under valgrind' checked morning
+else
+    echo '== valgrind is not there: not run'
+fi
 if command -v g++ >/dev/null; then step 'header in C++' cplusplus; else echo '== g++ is not there: not run'; fi
 
 asked=$(nm -u "$archive" | awk '$1 == "U" { print $2 }' | sort -u | tr '\n' ' ')

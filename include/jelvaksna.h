@@ -3,7 +3,8 @@
  * One reader at one desk takes transcripts one after another. A day is lent as
  * a book of words; each call reads it afresh, keeps nothing, allocates nothing
  * and needs no setting up. The archive has no data that is written, so calls
- * may run at the same time on several threads.
+ * may run at the same time on several threads. A desk that is opened with a
+ * book carries its rows from then on, in words that the caller lends and keeps.
  *
  * Link with libjelvaksna.a, which `rt staticlib jelvaksna` writes after it has
  * proved what each call does. This header is kept by hand; host/tests/header.rs
@@ -48,29 +49,58 @@
  * more plans than the book has rows.
  *
  * FIRST COME, FIRST DUE is a profile for books where a transcript released
- * earlier is never due later. It is chosen by calling it: each call has another
- * of its name with first_come_ put in. Two rows cross if one has the smaller
- * release and also the larger due; the profile accepts rows in any order, as
- * long as no two of them cross, and whether they disagree does not matter. Its
- * list is one plan, with the rows by release, then due, then row: no order of
- * the rows ends sooner, and none has a smaller worst lateness. A book may be
- * accepted by the profile, by the other calls, by both or by neither. Where
- * both accept it they list the same plan, though its order may differ.
+ * earlier is never due later. It is chosen by calling it: each call, but those
+ * of the open desk, has another of its name with first_come_ put in. Two rows
+ * cross if one has the smaller release and also the larger due; the profile
+ * accepts rows in any order, as long as no two of them cross, and whether they
+ * disagree does not matter. Its list is one plan, with the rows by release,
+ * then due, then row: no order of the rows ends sooner, and none has a smaller
+ * worst lateness. A book may be accepted by the profile, by the other calls,
+ * by both or by neither. Where both accept it they list the same plan, though
+ * its order may differ.
+ *
+ * THE OPEN DESK is a run of JELVAKSNA_DESK_WORDS words or more that an opening
+ * fills from a book. It holds the rows, which of them are done, the desk's
+ * minute, and the worst lateness so far: none until a row is done. Later calls
+ * on it lend no book. A start takes a row off the rows left. The list and the
+ * order of a plan are those of the rows left, which keep their row numbers,
+ * from the desk's minute on; latenesses are those of the rows left alone. The
+ * profile has no open desk. Words of a longer run past those of the desk hold
+ * what they held, in every call.
+ *
+ * How the words are laid out is the library's own and may change with a
+ * version. On one version a desk may be copied, stored and moved as plain
+ * words. Calls that write a desk (open, start) must not run at the same time as
+ * any other call on it; calls that only read it (list, order of plan) may run
+ * at the same time as each other. A refused call leaves the desk as it is, so
+ * it always holds what the accepted starts alone give.
+ *
+ * A run that is shorter, or that a call can see to be no desk, is refused RANGE
+ * at 0 and left as it is. But a run that no opening has filled, or that was
+ * written to since, may also pass for a desk: what is said here of memory then
+ * holds, and nothing else is promised.
+ *
+ * Ends and latenesses on a desk are at most 27,680,000 (on a book 17,680,000).
+ * A start past minute 20,000,000 is refused EARLY, so a desk whose own minute
+ * is past it can start nothing more; its list and its orders go on.
  *
  * WHAT IS LENT. Pointers are aligned for uint32_t, their lengths count words,
- * and all those words can be read; those of `result` can also be written.
- * `result` overlaps neither the book nor anything else lent to the same call.
- * Where a length is 0 the pointer may be NULL. `result` alone is ever written,
- * on success only, and only as far as each call says; further words of it hold
- * what they held. A refused call writes nothing.
+ * and all those words can be read; those of `result`, and of the desk in an
+ * opening and a start, can also be written. What can be written overlaps
+ * nothing else that is lent to the same call: no `result` overlaps a desk, and
+ * no desk its book. Where a length is 0 the pointer may be NULL. Only `result`
+ * and the desk that is opened or started on are ever written, on success only,
+ * and only as far as each call says; further words of them hold what they held.
+ * A refused call writes nothing.
  *
  * STACK. A call uses up to 40 KB of its caller's stack, as measured on x86-64;
  * that there is room is not proved. Give a thread that calls 64 KB at least.
  *
  * THE SEQUENCE OF REFUSALS. The words of the book are tested from the first
  * on, at one word in the sequence CUT, KIND, FULL, RANGE, TWICE, COUNT. Then
- * come TAIL, DISORDER (in the profile CROSSED), NOT_POSTING, UNLISTED, NARROW,
- * UNKEPT. The first condition met is the one that is told.
+ * come TAIL, DISORDER (in the profile CROSSED), NOT_POSTING, UNLISTED, DONE,
+ * EARLY, NARROW, UNKEPT. A call that is lent a desk in place of a book begins
+ * with RANGE, at 0. The first condition met is the one that is told.
  */
 #ifndef JELVAKSNA_H
 #define JELVAKSNA_H
@@ -78,27 +108,30 @@
 #include <stddef.h>
 #include <stdint.h>
 
-#define JELVAKSNA_VERSION "1.4"
+#define JELVAKSNA_VERSION "1.5"
 
 /* The refusals, and the place that comes with each. */
 #define JELVAKSNA_CUT 1          /* the book stops where a word is due: its length */
 #define JELVAKSNA_KIND 2         /* another kind is due here: the word */
-#define JELVAKSNA_RANGE 3        /* a value outside its range: the word */
+#define JELVAKSNA_RANGE 3        /* a value outside its range: the word; no desk: 0 */
 #define JELVAKSNA_TWICE 4        /* the number of an earlier row: the number word */
 #define JELVAKSNA_FULL 5         /* a number word would open row 257: that word */
 #define JELVAKSNA_COUNT 6        /* the end word differs from the rows read: that word */
 #define JELVAKSNA_TAIL 7         /* a word follows the end word: that word */
 #define JELVAKSNA_DISORDER 8     /* two rows disagree: number word of the first row that does with one above */
-#define JELVAKSNA_NARROW 9       /* the result is too short: 0 */
+#define JELVAKSNA_NARROW 9       /* the result, or the run for a desk, is too short: 0 */
 #define JELVAKSNA_NOT_POSTING 10 /* not every row once: see jelvaksna_verdict */
 #define JELVAKSNA_UNLISTED 11    /* no row or plan of that number: how many there are */
 #define JELVAKSNA_UNKEPT 12      /* no order keeps the bound: 0 */
 #define JELVAKSNA_CROSSED 13     /* two rows cross: number word of the first row that does with one above */
+#define JELVAKSNA_DONE 14        /* the row was started before: the row */
+#define JELVAKSNA_EARLY 15       /* before the desk's minute or the release, or past 20,000,000: 0 */
 
 /* Limits. */
 #define JELVAKSNA_MAX_ROWS 256        /* words that any order fits in */
 #define JELVAKSNA_MAX_LIST_WORDS 512  /* words that any list fits in */
 #define JELVAKSNA_MAX_BOOK_WORDS 1027 /* words of the longest accepted book */
+#define JELVAKSNA_DESK_WORDS 1288     /* words of an open desk */
 
 /* The word of a kind with a value; JELVAKSNA_WORD(0, 3) is class 3. */
 #define JELVAKSNA_WORD(kind, value) ((uint32_t)(kind) << 29 | (uint32_t)(value))
@@ -110,10 +143,11 @@ extern "C" {
 /* What every call answers. Fields that a case does not speak of are 0. */
 typedef struct jelvaksna_answer {
     size_t place;     /* place of a refusal, or of a row's number word */
-    size_t count;     /* count of plans, or the first plan that beats a posting */
-    uint32_t refusal; /* 0, or the refusal's number, 1 to 13; 8 never in the profile, 13 only there */
+    size_t count;     /* count of plans or of a desk's rows, or the first plan that beats a posting */
+    uint32_t refusal; /* 0, or the refusal's number, 1 to 15; 8 never in the profile, 13 only there */
     uint32_t end;     /* end of the order or the posting */
-    int32_t late;     /* its worst lateness */
+    int32_t late;     /* its worst lateness; after a start, the worst lateness so far */
+    uint32_t minute;  /* the desk's minute */
 } jelvaksna_answer;
 
 /* The list. `result` has two words for each row of the book or more, whatever
@@ -182,6 +216,38 @@ jelvaksna_answer jelvaksna_first_come_verdict(const uint32_t *book, size_t book_
 /* Where a row stands. */
 jelvaksna_answer jelvaksna_first_come_row_place(const uint32_t *book, size_t book_len,
                                                 uint32_t row);
+
+/* The calls of the open desk.
+ *
+ * Opens a desk with a book: all its rows are left, at the free minute. `desk`
+ * has JELVAKSNA_DESK_WORDS words or more and may hold anything; so many of them
+ * are written. Answers `count`, the count of rows, and `minute`, the desk's.
+ * Refused: 1 to 8, NARROW. */
+jelvaksna_answer jelvaksna_desk_open(const uint32_t *book, size_t book_len,
+                                     uint32_t *desk, size_t desk_len);
+
+/* Starts a row at a minute. The row is done, and the desk moves to that minute
+ * plus the row's length. Answers `minute`, the desk's new one, and `late`, the
+ * worst lateness so far; it is below 0 where every row done was early.
+ * Refused: RANGE, UNLISTED with the count of all rows of the desk, DONE with
+ * the row, EARLY. */
+jelvaksna_answer jelvaksna_desk_start(uint32_t *desk, size_t desk_len,
+                                      uint32_t row, uint32_t minute);
+
+/* The list of the rows left. `result` as for a book's list, with two words for
+ * each row left or more. Answers `count`, the count of plans: at least 1 as
+ * long as a row is left, then 0.
+ * Refused: RANGE, NARROW. */
+jelvaksna_answer jelvaksna_desk_list(const uint32_t *desk, size_t desk_len,
+                                     uint32_t *result, size_t result_len);
+
+/* The order of a listed plan of the rows left, counted from 1. `result` has one
+ * word for each row left or more and takes the row numbers. Answers `end` and
+ * `late`, the plan's pair.
+ * Refused: RANGE, UNLISTED with the count of plans, NARROW. */
+jelvaksna_answer jelvaksna_desk_order_of_plan(const uint32_t *desk, size_t desk_len,
+                                              uint32_t plan,
+                                              uint32_t *result, size_t result_len);
 
 #ifdef __cplusplus
 }

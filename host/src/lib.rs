@@ -2,15 +2,20 @@
 //!
 //! - [`linked`]: the declarations of the archive and a safe wrapper over them (feature `archive`).
 //! - [`model`]: a second implementation of document 01 with requests L1 to L3 and L5, from these alone.
+//! - [`desk_model`]: a second open desk of request L6, upon that model.
 //! - [`books`]: a seeded maker of books, sound and damaged.
 
 pub mod books;
+pub mod desk_model;
 #[cfg(feature = "archive")]
 pub mod linked;
 pub mod model;
 
 /// The version of the boundary, as in `include/jelvaksna.h`.
-pub const VERSION: &str = "1.4";
+pub const VERSION: &str = "1.5";
+
+/// The words of an open desk.
+pub const DESK_WORDS: usize = 1_288;
 
 /// The numbers of the refusals.
 pub mod refusal {
@@ -27,6 +32,8 @@ pub mod refusal {
     pub const UNLISTED: u32 = 11;
     pub const UNKEPT: u32 = 12;
     pub const CROSSED: u32 = 13;
+    pub const DONE: u32 = 14;
+    pub const EARLY: u32 = 15;
 }
 
 /// Which books are accepted, and which plans are listed of them.
@@ -57,6 +64,20 @@ impl Pair {
     pub fn beats(self, other: Pair) -> bool {
         self.end <= other.end && self.late <= other.late && self != other
     }
+}
+
+/// What an opening answers: the rows of the desk, and its minute.
+#[derive(Clone, Copy, Debug, PartialEq, Eq)]
+pub struct Opened {
+    pub rows: usize,
+    pub minute: u32,
+}
+
+/// What a start answers: the desk's new minute, and the worst lateness so far.
+#[derive(Clone, Copy, Debug, PartialEq, Eq)]
+pub struct Moved {
+    pub minute: u32,
+    pub worst: i32,
 }
 
 /// The word of a kind with a value.

@@ -1,6 +1,6 @@
 //! The archive's calls: the declarations, each call with its plain answer, and a typed wrapper.
 
-use crate::{Pair, Refusal};
+use crate::{Moved, Opened, Pair, Refusal};
 
 /// What every call answers. Fields that a case does not speak of are 0.
 #[repr(C)]
@@ -11,6 +11,7 @@ pub struct Answer {
     pub refusal: u32,
     pub end: u32,
     pub late: i32,
+    pub minute: u32,
 }
 
 const _: () = assert!(
@@ -19,6 +20,7 @@ const _: () = assert!(
         && std::mem::offset_of!(Answer, refusal) == 16
         && std::mem::offset_of!(Answer, end) == 20
         && std::mem::offset_of!(Answer, late) == 24
+        && std::mem::offset_of!(Answer, minute) == 28
 );
 
 /// The exported functions, as include/jelvaksna.h declares them.
@@ -84,6 +86,31 @@ pub mod raw {
             book_len: usize,
             row: u32,
         ) -> Answer;
+        pub fn jelvaksna_desk_open(
+            book: *const u32,
+            book_len: usize,
+            desk: *mut u32,
+            desk_len: usize,
+        ) -> Answer;
+        pub fn jelvaksna_desk_start(
+            desk: *mut u32,
+            desk_len: usize,
+            row: u32,
+            minute: u32,
+        ) -> Answer;
+        pub fn jelvaksna_desk_list(
+            desk: *const u32,
+            desk_len: usize,
+            result: *mut u32,
+            result_len: usize,
+        ) -> Answer;
+        pub fn jelvaksna_desk_order_of_plan(
+            desk: *const u32,
+            desk_len: usize,
+            plan: u32,
+            result: *mut u32,
+            result_len: usize,
+        ) -> Answer;
     }
 }
 
@@ -102,6 +129,16 @@ fn pair(answer: Answer) -> Pair {
         end: answer.end,
         late: answer.late,
     }
+}
+
+/// The pairs of a list, two words each.
+fn pairs(list: &[u32]) -> Vec<Pair> {
+    list.chunks_exact(2)
+        .map(|p| Pair {
+            end: p[0],
+            late: p[1] as i32,
+        })
+        .collect()
 }
 
 /// The safe calls over five of the exported functions.
@@ -189,13 +226,7 @@ macro_rules! calls {
             // Two words for each row: a book's rows take four words each.
             let mut result = vec![0; book.len() / 2];
             let count = list(book, &mut result)?;
-            Ok(result[..2 * count]
-                .chunks_exact(2)
-                .map(|p| Pair {
-                    end: p[0],
-                    late: p[1] as i32,
-                })
-                .collect())
+            Ok(pairs(&result[..2 * count]))
         }
     };
 }
@@ -210,7 +241,7 @@ calls!(
 
 /// The calls of the profile "first come, first due".
 pub mod first_come {
-    use super::{pair, told};
+    use super::{pair, pairs, told};
     use crate::{Pair, Refusal};
 
     calls!(
@@ -220,4 +251,85 @@ pub mod first_come {
         jelvaksna_first_come_verdict,
         jelvaksna_first_come_row_place
     );
+}
+
+/// The calls of the open desk: on a run of [`crate::DESK_WORDS`] words or more.
+pub mod desk {
+    use super::{pair, pairs, told, Moved, Opened, Pair, Refusal};
+    use crate::model::MAX_ROWS;
+
+    /// The calls on slices, with the answer as it comes.
+    pub mod plain {
+        use crate::linked::{raw, Answer};
+
+        pub fn open(book: &[u32], desk: &mut [u32]) -> Answer {
+            // SAFETY: both slices are live and aligned for the call, and `desk` is lent alone.
+            unsafe {
+                raw::jelvaksna_desk_open(book.as_ptr(), book.len(), desk.as_mut_ptr(), desk.len())
+            }
+        }
+
+        pub fn start(desk: &mut [u32], row: u32, minute: u32) -> Answer {
+            // SAFETY: the slice is live and aligned for the call, and lent alone.
+            unsafe { raw::jelvaksna_desk_start(desk.as_mut_ptr(), desk.len(), row, minute) }
+        }
+
+        pub fn list(desk: &[u32], result: &mut [u32]) -> Answer {
+            // SAFETY: both slices are live and aligned for the call, and `result` is lent alone.
+            unsafe {
+                raw::jelvaksna_desk_list(
+                    desk.as_ptr(),
+                    desk.len(),
+                    result.as_mut_ptr(),
+                    result.len(),
+                )
+            }
+        }
+
+        pub fn order_of_plan(desk: &[u32], plan: u32, result: &mut [u32]) -> Answer {
+            // SAFETY: as for `list`.
+            unsafe {
+                raw::jelvaksna_desk_order_of_plan(
+                    desk.as_ptr(),
+                    desk.len(),
+                    plan,
+                    result.as_mut_ptr(),
+                    result.len(),
+                )
+            }
+        }
+    }
+
+    /// Fills a desk from a book, and gives the count of rows and the desk's minute.
+    pub fn open(book: &[u32], desk: &mut [u32]) -> Result<Opened, Refusal> {
+        told(plain::open(book, desk), |a| Opened {
+            rows: a.count,
+            minute: a.minute,
+        })
+    }
+
+    /// Starts a row at a minute, and gives the desk's new minute and the worst lateness so far.
+    pub fn start(desk: &mut [u32], row: u32, minute: u32) -> Result<Moved, Refusal> {
+        told(plain::start(desk, row, minute), |a| Moved {
+            minute: a.minute,
+            worst: a.late,
+        })
+    }
+
+    /// Writes the listed plans of the rows left, two words each, and gives how many there are.
+    pub fn list(desk: &[u32], result: &mut [u32]) -> Result<usize, Refusal> {
+        told(plain::list(desk, result), |a| a.count)
+    }
+
+    /// Writes the order of a listed plan of the rows left, and gives its pair.
+    pub fn order_of_plan(desk: &[u32], plan: u32, result: &mut [u32]) -> Result<Pair, Refusal> {
+        told(plain::order_of_plan(desk, plan, result), pair)
+    }
+
+    /// The listed plans of the rows left as pairs.
+    pub fn plans(desk: &[u32]) -> Result<Vec<Pair>, Refusal> {
+        let mut result = [0; 2 * MAX_ROWS];
+        let count = list(desk, &mut result)?;
+        Ok(pairs(&result[..2 * count]))
+    }
 }

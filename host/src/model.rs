@@ -69,7 +69,7 @@ pub struct Day {
     listed: OnceCell<Vec<Pair>>,
 }
 
-fn refuse<T>(number: u32, place: usize) -> Result<T, Refusal> {
+pub(crate) fn refuse<T>(number: u32, place: usize) -> Result<T, Refusal> {
     Err(Refusal { number, place })
 }
 
@@ -178,12 +178,21 @@ impl Day {
             Profile::OrderingRule => pair_test(&rows, DISORDER, Row::disagrees)?,
             Profile::FirstCome => pair_test(&rows, CROSSED, Row::crosses)?,
         }
-        Ok(Day {
+        Ok(Day::of(profile, free, rows))
+    }
+
+    fn of(profile: Profile, free: i64, rows: Vec<Row>) -> Day {
+        Day {
             profile,
             free,
             rows,
             listed: OnceCell::new(),
-        })
+        }
+    }
+
+    /// Rows of an accepted book, from any minute on.
+    pub fn of_rows(free: i64, rows: Vec<Row>) -> Day {
+        Day::of(Profile::OrderingRule, free, rows)
     }
 
     /// Whether any row has a class.

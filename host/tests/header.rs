@@ -1,7 +1,7 @@
 //! The header says what the Rust declarations say, and both what the archive exports and what the
 //! source of the exported functions says.
 
-use jelvaksna::{refusal, VERSION};
+use jelvaksna::{refusal, DESK_WORDS, VERSION};
 use std::collections::BTreeSet;
 use std::fs::read_to_string;
 use std::process::Command;
@@ -93,15 +93,16 @@ fn prototypes() {
     let declared = declared.split_once("extern \"C\" {").unwrap().1;
     let declared = declared.split_once('}').unwrap().0;
     let header = header_functions();
-    assert_eq!(header.len(), 10);
+    assert_eq!(header.len(), 14);
     assert_eq!(header, of_source(declared, "pub fn "));
 }
 
-/// For every call there is one of the profile, with the same parameters.
+/// For every call but those of the open desk there is one of the profile, with the same parameters.
 #[test]
 fn profile() {
     let (of_profile, calls): (Vec<_>, Vec<_>) = header_functions()
         .into_iter()
+        .filter(|f| !f.0.starts_with("jelvaksna_desk_"))
         .partition(|f| f.0.starts_with("jelvaksna_first_come_"));
     let renamed = of_profile
         .into_iter()
@@ -170,6 +171,8 @@ fn constants() {
         ("UNLISTED", refusal::UNLISTED),
         ("UNKEPT", refusal::UNKEPT),
         ("CROSSED", refusal::CROSSED),
+        ("DONE", refusal::DONE),
+        ("EARLY", refusal::EARLY),
     ];
     for (i, (name, number)) in numbers.into_iter().enumerate() {
         assert_eq!(number, i as u32 + 1);
@@ -180,6 +183,7 @@ fn constants() {
     assert_eq!(value("MAX_ROWS"), rows.to_string());
     assert_eq!(value("MAX_LIST_WORDS"), (2 * rows).to_string());
     assert_eq!(value("MAX_BOOK_WORDS"), (4 * rows + 3).to_string());
+    assert_eq!(value("DESK_WORDS"), DESK_WORDS.to_string());
     assert_eq!(value("VERSION"), format!("\"{VERSION}\""));
     assert!(env!("CARGO_PKG_VERSION").starts_with(&format!("{VERSION}.")));
 }

@@ -6,12 +6,13 @@
 
 use jelvaksna::books::{self, Draft, Rng};
 use jelvaksna::model::{self, Day, MAX_ROWS};
-use jelvaksna::{linked, Pair, Profile};
+use jelvaksna::{linked, linked::desk, Pair, Profile, DESK_WORDS};
 use std::hint::black_box;
 use std::time::{Duration, Instant};
 
 const SIZES: [usize; 4] = [8, 32, 128, 256];
 const PLANS: [usize; 5] = [2, 8, 32, 128, 230];
+const DESKS: [usize; 2] = [30, 256];
 const RUNS: usize = 9;
 const CALLS: [&str; 4] = [
     "list",
@@ -124,6 +125,63 @@ fn first_come(seed: u64) {
     }
 }
 
+/// A start on a copy of a desk, beside the copy alone; and the start that is refused since its row is
+/// done, beside one on a run that is too short.
+fn starts(opened: &[u32], row: u32, minute: u32) -> [(f64, f64); 2] {
+    let (mut one, mut other) = (opened.to_vec(), opened.to_vec());
+    assert!(desk::start(&mut one, row, minute).is_ok());
+    let start = time(
+        || {
+            one.copy_from_slice(black_box(opened));
+            desk::start(&mut one, row, minute).is_ok()
+        },
+        || {
+            other.copy_from_slice(black_box(opened));
+            black_box(&mut other).is_empty()
+        },
+    );
+    let short = &mut other[1..];
+    let refused = time(
+        || desk::start(black_box(&mut one), row, minute).is_ok(),
+        || desk::start(black_box(short), row, minute).is_ok(),
+    );
+    [start, refused]
+}
+
+/// The calls of the open desk, each beside what it is to be measured by.
+fn open_desk(name: &str, day: &Draft) {
+    let (book, rows) = (day.words(), day.rows.len());
+    let (mut opened, mut again) = ([0; DESK_WORDS], [0; DESK_WORDS]);
+    let minute = desk::open(&book, &mut opened).expect("accepted").minute;
+    let (mut a, mut b) = ([0; 2 * MAX_ROWS], [0; 2 * MAX_ROWS]);
+    assert_eq!(desk::list(&opened, &mut a), linked::list(&book, &mut b));
+    assert_eq!(a, b);
+    desk::order_of_plan(&opened, 1, &mut a).expect("listed");
+    let release = day.rows[a[0] as usize - 1].release as u32;
+    let [start, refused] = starts(&opened, a[0], minute.max(release));
+    let open = time(
+        || desk::open(black_box(&book), &mut again).is_ok(),
+        || linked::row_words(black_box(&book), 1).is_ok(),
+    );
+    let list = time(
+        || desk::list(black_box(&opened), &mut a),
+        || linked::list(black_box(&book), &mut b),
+    );
+    let order = time(
+        || desk::order_of_plan(black_box(&opened), 1, &mut a),
+        || linked::order_of_plan(black_box(&book), 1, &mut b),
+    );
+    for (call, beside, (of_call, of_beside)) in [
+        ("open", "reading the book alone", open),
+        ("start, on a copy", "the copy alone", start),
+        ("start, refused 14", "refused 3 for its length", refused),
+        ("list", "list of the book", list),
+        ("order of plan 1", "the same of the book", order),
+    ] {
+        println!("| {name} | {rows} | {call} | {of_call:.3} | {beside} | {of_beside:.3} |");
+    }
+}
+
 fn main() {
     let seed = books::seed();
     println!("Microseconds a call, median of {RUNS} runs, seed {seed:#x}. Below 1 in the last column: the archive is faster.\n");
@@ -172,6 +230,14 @@ fn main() {
         );
     }
     first_come(seed);
+    println!("\nThe open desk, no row done, each call beside another:\n");
+    println!("| day | rows | call | µs | beside | µs |");
+    println!("|---|---:|---|---:|---|---:|");
+    for (name, make) in days {
+        for rows in DESKS {
+            open_desk(name, &make(rows));
+        }
+    }
     println!("\nHow the archive's time grows with the rows (and the model's):\n");
     println!("| day | call | 8 to 32 | 32 to 128 | 128 to 256 |");
     println!("|---|---|---:|---:|---:|");

@@ -82,7 +82,7 @@ impl Call {
     }
 }
 
-fn refused(refusal: Refusal) -> Answer {
+pub fn refused(refusal: Refusal) -> Answer {
     Answer {
         refusal: refusal.number,
         place: refusal.place,
@@ -90,11 +90,11 @@ fn refused(refusal: Refusal) -> Answer {
     }
 }
 
-fn told<T>(outcome: Result<T, Refusal>, of: impl FnOnce(T) -> Answer) -> Answer {
+pub fn told<T>(outcome: Result<T, Refusal>, of: impl FnOnce(T) -> Answer) -> Answer {
     outcome.map_or_else(refused, of)
 }
 
-fn of_pair(pair: Pair) -> Answer {
+pub fn of_pair(pair: Pair) -> Answer {
     Answer {
         end: pair.end,
         late: pair.late,

@@ -1,0 +1,55 @@
+//! A morning at an open desk through the safe wrapper: opened with a book, planned, two rows
+//! started, planned again; and starts that are refused.
+//!
+//!     cargo run --offline --release --manifest-path host/Cargo.toml --example morning
+
+use jelvaksna::{linked::desk, word, Refusal, DESK_WORDS};
+
+/// The plans of the rows left, each with its order.
+fn print_plans(words: &[u32], left: usize) -> Result<(), Refusal> {
+    let mut order = vec![0; left];
+    for (i, plan) in desk::plans(words)?.iter().enumerate() {
+        desk::order_of_plan(words, i as u32 + 1, &mut order)?;
+        let (end, late) = (plan.end, plan.late);
+        println!("plan {}: end {end}, late {late}, rows {order:?}", i + 1);
+    }
+    Ok(())
+}
+
+fn main() -> Result<(), Refusal> {
+    // Free from minute 480, 60 pages an hour; row: number, release, pages, due.
+    let mut book = vec![word(1, 480), word(2, 60)];
+    book.extend([word(3, 901), word(4, 481), word(5, 1), word(6, 485)]);
+    book.extend([word(3, 902), word(4, 480), word(5, 10), word(6, 492)]);
+    book.extend([word(3, 903), word(4, 541), word(5, 1), word(6, 544)]);
+    book.extend([word(3, 904), word(4, 540), word(5, 20), word(6, 562)]);
+    book.push(word(7, 4));
+
+    // From here on the desk carries the rows.
+    let mut words = [0; DESK_WORDS];
+    let opened = desk::open(&book, &mut words)?;
+    drop(book);
+    println!("opened: {} rows, minute {}", opened.rows, opened.minute);
+    print_plans(&words, 4)?;
+
+    // The second plan it is. Row 2 waits a minute longer than planned.
+    for (row, minute) in [(1, 481), (2, 483)] {
+        let moved = desk::start(&mut words, row, minute)?;
+        println!(
+            "row {row} started at {minute}: the desk is free at {}, worst lateness so far {}",
+            moved.minute, moved.worst
+        );
+    }
+    println!("the rest:");
+    print_plans(&words, 2)?;
+
+    // Refused, and the desk is as it was: no row 5, row 1 is done, row 3 is released at 541.
+    for (row, minute) in [(5, 541), (1, 541), (3, 540)] {
+        let before = words;
+        if let Err(Refusal { number, place }) = desk::start(&mut words, row, minute) {
+            println!("row {row} at {minute}: refused {number} at {place}");
+        }
+        assert_eq!(words, before);
+    }
+    Ok(())
+}

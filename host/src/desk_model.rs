@@ -1,0 +1,144 @@
+//! A second opinion on the open desk: request L6 as a plain program, upon the model of a book.
+//!
+//! It knows nothing of the words that hold a desk. What is planned on a desk is planned as a day of
+//! the rows left alone that begins at the desk's minute.
+
+use crate::model::{refuse, Day, Row};
+use crate::refusal::*;
+use crate::{Moved, Opened, Pair, Refusal};
+use std::cell::OnceCell;
+
+/// No row is started later.
+pub const LATEST_START: i64 = 20_000_000;
+
+/// A desk that an opening and starts have left.
+#[derive(Clone, Debug)]
+pub struct Desk {
+    /// All rows that it was opened with.
+    pub rows: Vec<Row>,
+    /// The numbers of the rows left, from 1, rising.
+    pub left: Vec<u32>,
+    pub minute: i64,
+    /// None until a row is done.
+    pub worst: Option<i64>,
+    rest: OnceCell<Day>,
+}
+
+impl Desk {
+    /// Opens a desk with a book, or says which of the conditions 1 to 8 turns that down.
+    pub fn open(book: &[u32]) -> Result<Desk, Refusal> {
+        let day = Day::read(book)?;
+        Ok(Desk {
+            left: (1..=day.rows.len() as u32).collect(),
+            minute: day.free,
+            rows: day.rows,
+            worst: None,
+            rest: OnceCell::new(),
+        })
+    }
+
+    /// What an opening answers.
+    pub fn opened(&self) -> Opened {
+        Opened {
+            rows: self.rows.len(),
+            minute: self.minute as u32,
+        }
+    }
+
+    /// The row of a number from 1 on.
+    pub fn row(&self, number: u32) -> &Row {
+        &self.rows[number as usize - 1]
+    }
+
+    /// Starts a row at a minute: 11 if there is no such row, 14 if it was started before, 15 if the
+    /// minute is before the desk's or the release, or past the latest.
+    pub fn start(&mut self, number: u32, minute: u32) -> Result<Moved, Refusal> {
+        if number == 0 || number as usize > self.rows.len() {
+            return refuse(UNLISTED, self.rows.len());
+        }
+        if !self.left.contains(&number) {
+            return refuse(DONE, number as usize);
+        }
+        let (row, minute) = (*self.row(number), i64::from(minute));
+        if minute < self.minute || minute < row.release || minute > LATEST_START {
+            return refuse(EARLY, 0);
+        }
+        let end = minute + row.length;
+        let late = end - row.due;
+        let worst = self.worst.map_or(late, |worst| worst.max(late));
+        self.left.retain(|&left| left != number);
+        self.minute = end;
+        self.worst = Some(worst);
+        self.rest = OnceCell::new();
+        Ok(Moved {
+            minute: end as u32,
+            worst: worst as i32,
+        })
+    }
+
+    /// The rows left as a day of their own.
+    pub fn rest(&self) -> &Day {
+        self.rest.get_or_init(|| {
+            let rows = self.left.iter().map(|&number| *self.row(number));
+            Day::of_rows(self.minute, rows.collect())
+        })
+    }
+
+    /// The listed plans of the rows left; with none left, none.
+    pub fn list(&self) -> &[Pair] {
+        match self.left.len() {
+            0 => &[],
+            _ => self.rest().list(),
+        }
+    }
+
+    /// The list by its definition: the pairs of orders of the rows left that no order beats, by rising
+    /// end. For few rows.
+    pub fn list_by_definition(&self) -> Vec<Pair> {
+        match self.left.len() {
+            0 => Vec::new(),
+            _ => self.rest().list_by_definition(),
+        }
+    }
+
+    /// The list into a result buffer; how many plans.
+    pub fn list_into(&self, result: &mut [u32]) -> Result<usize, Refusal> {
+        if result.len() < 2 * self.left.len() {
+            return refuse(NARROW, 0);
+        }
+        for (words, pair) in result.chunks_exact_mut(2).zip(self.list()) {
+            words.copy_from_slice(&[pair.end, pair.late as u32]);
+        }
+        Ok(self.list().len())
+    }
+
+    /// The order of a listed plan into a result buffer, in the numbers that the rows have.
+    pub fn order_of_plan_into(&self, plan: u32, result: &mut [u32]) -> Result<Pair, Refusal> {
+        let plans = self.list().len();
+        if plan == 0 || plan as usize > plans {
+            return refuse(UNLISTED, plans);
+        }
+        if result.len() < self.left.len() {
+            return refuse(NARROW, 0);
+        }
+        let (pair, order) = self.rest().order_of_plan(plan as usize);
+        for (word, place) in result.iter_mut().zip(order) {
+            *word = self.left[place as usize - 1];
+        }
+        Ok(pair)
+    }
+
+    /// The pair of an order of all rows left.
+    pub fn pair_of(&self, order: &[u32]) -> Pair {
+        let (mut minute, mut worst) = (self.minute, i64::MIN);
+        for &number in order {
+            let row = self.row(number);
+            minute = minute.max(row.release) + row.length;
+            worst = worst.max(minute - row.due);
+        }
+        Pair {
+            end: minute as u32,
+            late: worst as i32,
+        }
+    }
+}
