@@ -10,4 +10,5 @@ answerOf s = record {
   refusal = s .number;
   end = s .end;
   late = s .late;
+  minute = s .minute;
 }

@@ -1,14 +1,18 @@
 // What crosses the C boundary: one struct for every answer, and each case of an answer in it.
 ghost use mathlib.Core.Path.{_≡_};
 ghost use Rattle.calls.specs.Answers.{saidNo, saidList, saidOrder, saidVerdict, saidPlace};
+ghost use Rattle.open_desk.specs.Answers.{saidOpen, saidStart};
 ghost use Rattle.answers.specs.Boundary.{answerOf};
+use desk_open::OpenAnswer;
+use desk_start::StartAnswer;
 use outcomes::ListAnswer;
 use outcomes::OrderAnswer;
 use outcomes::VerdictAnswer;
 use row_calls::RowPlace;
 
-// What every call answers: the refusal's number, 0 for none, and its place, or the place of a row's number word; the count of plans, or the
-// first plan that beats a posting, 0 for none; end and worst lateness. A field that a case does not speak of is 0.
+// What every call answers: the refusal's number, 0 for none, and its place, or the place of a row's number word; the count of plans, the
+// first plan that beats a posting, 0 for none, or the rows of an opened desk; end and worst lateness, or the worst lateness so far of an
+// open desk; an open desk's minute. A field that a case does not speak of is 0.
 #[repr(C)]
 pub struct Answer {
     pub place: usize,
@@ -16,6 +20,7 @@ pub struct Answer {
     pub refusal: u32,
     pub end: u32,
     pub late: i32,
+    pub minute: u32,
 }
 
 fn refused(number: u32, place: usize) -> Answer
@@ -27,6 +32,7 @@ fn refused(number: u32, place: usize) -> Answer
         refusal: number,
         end: 0,
         late: 0,
+        minute: 0,
     }
 }
 
@@ -40,6 +46,7 @@ pub fn of_list(answer: ListAnswer) -> Answer
             refusal: 0,
             end: 0,
             late: 0,
+            minute: 0,
         },
         ListAnswer::Refused(number, place) => refused(number, place),
     }
@@ -55,6 +62,7 @@ pub fn of_order(answer: OrderAnswer) -> Answer
             refusal: 0,
             end: end,
             late: late,
+            minute: 0,
         },
         OrderAnswer::Refused(number, place) => refused(number, place),
     }
@@ -70,6 +78,7 @@ pub fn of_verdict(answer: VerdictAnswer) -> Answer
             refusal: 0,
             end: end,
             late: late,
+            minute: 0,
         },
         VerdictAnswer::Beaten(end, late, plan) => Answer {
             place: 0,
@@ -77,6 +86,7 @@ pub fn of_verdict(answer: VerdictAnswer) -> Answer
             refusal: 0,
             end: end,
             late: late,
+            minute: 0,
         },
         VerdictAnswer::Refused(number, place) => refused(number, place),
     }
@@ -92,7 +102,40 @@ pub fn of_place(answer: RowPlace) -> Answer
             refusal: 0,
             end: 0,
             late: 0,
+            minute: 0,
         },
         RowPlace::Refused(number, place) => refused(number, place),
+    }
+}
+
+pub fn of_open(answer: OpenAnswer) -> Answer
+    ensures { λ r. ⌜ r ≡ answerOf (saidOpen answer) ⌝ }
+{
+    match answer {
+        OpenAnswer::Opened(count, minute) => Answer {
+            place: 0,
+            count: count,
+            refusal: 0,
+            end: 0,
+            late: 0,
+            minute: minute,
+        },
+        OpenAnswer::Refused(number, place) => refused(number, place),
+    }
+}
+
+pub fn of_start(answer: StartAnswer) -> Answer
+    ensures { λ r. ⌜ r ≡ answerOf (saidStart answer) ⌝ }
+{
+    match answer {
+        StartAnswer::Moved(minute, late) => Answer {
+            place: 0,
+            count: 0,
+            refusal: 0,
+            end: 0,
+            late: late,
+            minute: minute,
+        },
+        StartAnswer::Refused(number, place) => refused(number, place),
     }
 }

@@ -41,19 +41,19 @@ use Rattle.rows_left.specs.Left.{canPlan, plansHere}
 use Rattle.rows_left.specs.Gathered.{Gathered, Looked}
 use Rattle.rows_left.proofs.CanPlan.{can-plan-says}
 use Rattle.rows_left.proofs.Gathering.{few-left, left-ranged, columns-within, left-matches, left-renumbers}
-use Rattle.desk_plans.specs.Plans.{plansFrom, planningLeft, listCall, planCall}
+use Rattle.desk_plans.specs.Plans.{plansFrom, planningLeft, deskListCall, deskPlanCall}
 use Rattle.desk_plans.proofs.RowsPut.{putTo, written-put}
 use Rattle.desk_plans.proofs.Sound.{sound-left}
 
 -- A run that holds no desk whose rows left can be planned is refused.
 module _ (ws b : List ℕ) (no : plansHere ws ≡ false) where
-  pub list-refused : gives (list-answer.Refused byRange 0) b ≡ listCall ws b
-  unfolding listCall
-  list-refused = sym (rw (no, listCall))
+  pub list-refused : gives (list-answer.Refused byRange 0) b ≡ deskListCall ws b
+  unfolding deskListCall
+  list-refused = sym (rw (no, deskListCall))
 
-  pub plan-refused : (k : ℕ) → gives (order-answer.Refused byRange 0) b ≡ planCall ws k b
-  unfolding planCall
-  plan-refused k = sym (rw (no, planCall))
+  pub plan-refused : (k : ℕ) → gives (order-answer.Refused byRange 0) b ≡ deskPlanCall ws k b
+  unfolding deskPlanCall
+  plan-refused k = sym (rw (no, deskPlanCall))
 
 -- What is known of a look that is ready.
 pub record Ready (ws : List ℕ) (left : Left) : Type 0 where
@@ -96,18 +96,18 @@ module _ (ws : List ℕ) (left : Left) (r : Ready ws left) where
   abbrev desk : Planning
   desk = planningLeft (running ws)
 
-  list-here : (b : List ℕ) → listOutcome desk b ≡ listCall ws b
-  unfolding listCall
-  list-here b = sym (rw (r .here, listCall))
+  list-here : (b : List ℕ) → listOutcome desk b ≡ deskListCall ws b
+  unfolding deskListCall
+  list-here b = sym (rw (r .here, deskListCall))
 
-  plan-here : (k : ℕ) (b : List ℕ) → planOutcome desk k b ≡ planCall ws k b
-  unfolding planCall
-  plan-here k b = sym (rw (r .here, planCall))
+  plan-here : (k : ℕ) (b : List ℕ) → planOutcome desk k b ≡ deskPlanCall ws k b
+  unfolding deskPlanCall
+  plan-here k b = sym (rw (r .here, deskPlanCall))
 
-  pub list-none : left .count ≡ 0 → (b : List ℕ) → gives (list-answer.Plans 0) b ≡ listCall ws b
+  pub list-none : left .count ≡ 0 → (b : List ℕ) → gives (list-answer.Plans 0) b ≡ deskListCall ws b
   list-none e b = list-empty (running ws) (leftTo ws (countIn ws)) b (sym (r .rows .counted) ∙ e) ∙ list-here b
 
-  pub plan-none : left .count ≡ 0 → (k : ℕ) (b : List ℕ) → gives (order-answer.Refused byUnlisted 0) b ≡ planCall ws k b
+  pub plan-none : left .count ≡ 0 → (k : ℕ) (b : List ℕ) → gives (order-answer.Refused byUnlisted 0) b ≡ deskPlanCall ws k b
   plan-none e k b = plan-empty (running ws) (leftTo ws (countIn ws)) b k (sym (r .rows .counted) ∙ e) ∙ plan-here k b
 
   module _ (some-row : 1 ≤ left .count) where
@@ -158,7 +158,7 @@ module _ (ws : List ℕ) (left : Left) (r : Ready ws left) where
     sizes : (length (columns .left) ≡ n) × (length (desk .left) ≡ n)
     sizes = (length-count 1 n, sym (r .rows .counted))
 
-    pub list-done : (b : List ℕ) → listOutcome columns b ≡ listCall ws b
+    pub list-done : (b : List ℕ) → listOutcome columns b ≡ deskListCall ws b
     list-done b = step (decLe (2 * n) (length b)) ∙ list-here b
       where
         step : Dec (2 * n ≤ length b) → listOutcome columns b ≡ listOutcome desk b
@@ -173,13 +173,13 @@ module _ (ws : List ℕ) (left : Left) (r : Ready ws left) where
       abbrev pub Comes : OrderAnswer → List ℕ → Type 0
       Comes (order-answer.Pair e y) after =
           (n ≤ length after) × ((i : ℕ) → i < n → at after i ≤ mostRows) ×
-          (gives (order-answer.Pair e y) (putTo row after n) ≡ planCall ws k b)
-      Comes (order-answer.Refused m p) after = gives (order-answer.Refused m p) after ≡ planCall ws k b
+          (gives (order-answer.Pair e y) (putTo row after n) ≡ deskPlanCall ws k b)
+      Comes (order-answer.Refused m p) after = gives (order-answer.Refused m p) after ≡ deskPlanCall ws k b
 
       abbrev ComesOf : Outcome OrderAnswer → Type 0
       ComesOf o = Comes (o .answer) (o .buffer)
 
-      module _ (y : ℤ) (call : orderOutcome desk y b ≡ planCall ws k b) where
+      module _ (y : ℤ) (call : orderOutcome desk y b ≡ deskPlanCall ws k b) where
         order-found : n ≤ length b → (order : List ℕ) → columns .orders y ≡ some order → ComesOf (orderOutcome columns y b)
         unfolding written
         order-found h order e =

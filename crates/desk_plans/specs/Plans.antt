@@ -33,19 +33,19 @@ planningLeft d = record {
   orders = orderFor (jobIn (d .rows)) (d .minute) (d .left);
 }
 
-unfoldable pub listCall : (desk buffer : List ℕ) → Outcome ListAnswer
-listCall ws b = elim (plansHere ws) [
+unfoldable pub deskListCall : (desk buffer : List ℕ) → Outcome ListAnswer
+deskListCall ws b = elim (plansHere ws) [
   | false ↦ gives (list-answer.Refused byRange 0) b
   | true ↦ listOutcome (planningLeft (running ws)) b
 ]
 
-unfoldable pub planCall : (desk : List ℕ) → (k : ℕ) → (buffer : List ℕ) → Outcome OrderAnswer
-planCall ws k b = elim (plansHere ws) [
+unfoldable pub deskPlanCall : (desk : List ℕ) → (k : ℕ) → (buffer : List ℕ) → Outcome OrderAnswer
+deskPlanCall ws k b = elim (plansHere ws) [
   | false ↦ gives (order-answer.Refused byRange 0) b
   | true ↦ planOutcome (planningLeft (running ws)) k b
 ]
 
 -- Opens every definition of this file: name it on an `unfolding` line where all is to be computed.
 unfoldable pub openDeskPlans : Unit {0}
-unfolding plansFrom listCall planCall
+unfolding plansFrom deskListCall deskPlanCall
 openDeskPlans = tt

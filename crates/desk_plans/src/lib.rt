@@ -6,7 +6,7 @@ ghost use lib.ListN.{length, take, drop};
 ghost use Rattle.schedule.specs.Limits.{mostRows};
 ghost use Rattle.schedule.specs.Columns.{at};
 ghost use Rattle.outcomes.specs.Planning.{gives};
-ghost use Rattle.desk_plans.specs.Plans.{listCall, planCall};
+ghost use Rattle.desk_plans.specs.Plans.{deskListCall, deskPlanCall};
 use outcomes::ListAnswer;
 use outcomes::OrderAnswer;
 use refusals::Tested;
@@ -37,7 +37,7 @@ fn put_rows(rows: &[u32; Desk::PLACES], n: usize, result: &mut [u32])
 
 // The list of the rows left from the desk's minute on: for each plan two words, end and worst lateness in two's complement, by rising end.
 pub fn list(desk: &[u32], result: &mut [u32]) -> ListAnswer
-    ensures { λ r. ⌜ gives r (now (result .exit)) ≡ listCall (now (desk .entry)) (now (result .entry)) ⌝ }
+    ensures { λ r. ⌜ gives r (now (result .exit)) ≡ deskListCall (now (desk .entry)) (now (result .entry)) ⌝ }
 {
     let left = rows_left::look(desk);
     if !left.ready {
@@ -60,7 +60,7 @@ pub fn list(desk: &[u32], result: &mut [u32]) -> ListAnswer
 
 // The order of a listed plan by its number from 1, as row numbers, with its own end and worst lateness.
 pub fn order_of_plan(desk: &[u32], plan: u32, result: &mut [u32]) -> OrderAnswer
-    ensures { λ r. ⌜ gives r (now (result .exit)) ≡ planCall (now (desk .entry)) plan (now (result .entry)) ⌝ }
+    ensures { λ r. ⌜ gives r (now (result .exit)) ≡ deskPlanCall (now (desk .entry)) plan (now (result .entry)) ⌝ }
 {
     let left = rows_left::look(desk);
     if !left.ready {

@@ -5,6 +5,10 @@ ghost use mathlib.Core.Path.{_≡_};
 ghost use Rattle.calls.specs.Answers.{saidList, saidOrder, saidVerdict, saidPlace};
 ghost use Rattle.calls.specs.Calls.{listCall, boundCall, planCall, verdictCall};
 ghost use Rattle.row_calls.specs.Places.{placeCall};
+ghost use Rattle.desk_open.specs.Opens.{openCall};
+ghost use Rattle.desk_start.specs.Starts.{startCall};
+ghost use Rattle.desk_plans.specs.Plans.{deskListCall, deskPlanCall};
+ghost use Rattle.open_desk.specs.Answers.{saidOpen, saidStart};
 ghost use Rattle.planner.specs.Promise.{orderingRule};
 ghost use Rattle.first_come.specs.Promise.{firstCome};
 ghost use Rattle.answers.specs.Boundary.{answerOf};
@@ -104,4 +108,44 @@ pub extern "C" fn jelvaksna_first_come_row_place(book: &[u32], row: u32) -> Answ
     ensures { λ r. ⌜ r ≡ answerOf (saidPlace (placeCall firstCome (now (book .entry)) row)) ⌝ }
 {
     answers::of_place(first_come::row_place(book, row))
+}
+
+// Opens a desk with a book: the count of rows and the desk's minute, and the words of the desk.
+#[no_mangle]
+pub extern "C" fn jelvaksna_desk_open(book: &[u32], desk: &mut [u32]) -> Answer
+    ensures { λ r. ⌜ r ≡ answerOf (saidOpen (openCall (now (book .entry)) (now (desk .entry)) .answer)) ⌝ }
+    ensures { λ _. ⌜ now (desk .exit) ≡ openCall (now (book .entry)) (now (desk .entry)) .buffer ⌝ }
+{
+    answers::of_open(open_desk::open(book, desk))
+}
+
+// Starts a row of an open desk at a minute: the desk's new minute and the worst lateness so far.
+#[no_mangle]
+pub extern "C" fn jelvaksna_desk_start(desk: &mut [u32], row: u32, minute: u32) -> Answer
+    ensures { λ r. ⌜ r ≡ answerOf (saidStart (startCall (now (desk .entry)) row minute .answer)) ⌝ }
+    ensures { λ _. ⌜ now (desk .exit) ≡ startCall (now (desk .entry)) row minute .buffer ⌝ }
+{
+    answers::of_start(open_desk::start(desk, row, minute))
+}
+
+// The list of the rows left on an open desk, from its minute on.
+#[no_mangle]
+pub extern "C" fn jelvaksna_desk_list(desk: &[u32], result: &mut [u32]) -> Answer
+    ensures { λ r. ⌜ r ≡ answerOf (saidList (deskListCall (now (desk .entry)) (now (result .entry)) .answer)) ⌝ }
+    ensures { λ _. ⌜ now (result .exit) ≡ deskListCall (now (desk .entry)) (now (result .entry)) .buffer ⌝ }
+{
+    answers::of_list(open_desk::list(desk, result))
+}
+
+// The order of a listed plan of an open desk, by its number from 1.
+#[no_mangle]
+pub extern "C" fn jelvaksna_desk_order_of_plan(
+    desk: &[u32],
+    plan: u32,
+    result: &mut [u32],
+) -> Answer
+    ensures { λ r. ⌜ r ≡ answerOf (saidOrder (deskPlanCall (now (desk .entry)) plan (now (result .entry)) .answer)) ⌝ }
+    ensures { λ _. ⌜ now (result .exit) ≡ deskPlanCall (now (desk .entry)) plan (now (result .entry)) .buffer ⌝ }
+{
+    answers::of_order(open_desk::order_of_plan(desk, plan, result))
 }

@@ -42,7 +42,7 @@ use Rattle.rows_left.proofs.CanPlan.{can-plan-says}
 use Rattle.rows_left.proofs.Gathering.{left-ranged}
 use Rattle.desk_open.specs.declared.OpenAnswer.the-variants as open-answer
 use Rattle.desk_open.specs.Opens.{openedWords, deskTerms, openCall}
-use Rattle.desk_plans.specs.Plans.{plansFrom, planningLeft, listCall, planCall}
+use Rattle.desk_plans.specs.Plans.{plansFrom, planningLeft, deskListCall, deskPlanCall}
 use Rattle.desk_plans.proofs.Sound.{sound-left}
 use Rattle.open_desk.specs.Answers.{saidOpen, saidStart}
 use Rattle.open_desk.specs.History.{deskOpen, deskStart, deskList, deskPlan}
@@ -148,21 +148,21 @@ module _ (ws : List ℕ) where
   pub sound : CanPlan ws → 0 < length (running ws .left) → Sound g
   sound c some = sound-left (running ws) some (left-ranged (c .desk)) (can-plan-says (running ws) .1 (c .room, c .agree))
 
-  pub list-away : plansHere ws ≡ false → (b : List ℕ) → listCall ws b ≡ gives (list-answer.Refused byRange 0) b
-  unfolding listCall
-  list-away e b = rw (e, listCall)
+  pub list-away : plansHere ws ≡ false → (b : List ℕ) → deskListCall ws b ≡ gives (list-answer.Refused byRange 0) b
+  unfolding deskListCall
+  list-away e b = rw (e, deskListCall)
 
-  pub list-here : plansHere ws ≡ true → (b : List ℕ) → listCall ws b ≡ listOutcome g b
-  unfolding listCall
-  list-here e b = rw (e, listCall)
+  pub list-here : plansHere ws ≡ true → (b : List ℕ) → deskListCall ws b ≡ listOutcome g b
+  unfolding deskListCall
+  list-here e b = rw (e, deskListCall)
 
-  pub plan-away : plansHere ws ≡ false → (k : ℕ) (b : List ℕ) → planCall ws k b ≡ gives (order-answer.Refused byRange 0) b
-  unfolding planCall
-  plan-away e k b = rw (e, planCall)
+  pub plan-away : plansHere ws ≡ false → (k : ℕ) (b : List ℕ) → deskPlanCall ws k b ≡ gives (order-answer.Refused byRange 0) b
+  unfolding deskPlanCall
+  plan-away e k b = rw (e, deskPlanCall)
 
-  pub plan-here : plansHere ws ≡ true → (k : ℕ) (b : List ℕ) → planCall ws k b ≡ planOutcome g k b
-  unfolding planCall
-  plan-here e k b = rw (e, planCall)
+  pub plan-here : plansHere ws ≡ true → (k : ℕ) (b : List ℕ) → deskPlanCall ws k b ≡ planOutcome g k b
+  unfolding deskPlanCall
+  plan-here e k b = rw (e, deskPlanCall)
 
   pub list-own : CanPlan ws → (b : List ℕ) (n p : ℕ) → Refuses (deskList ws b .answer) n p ↔ ListTurned g b n p
   list-own c b = rw (list-here (here-is c) b) (list-turned g b)

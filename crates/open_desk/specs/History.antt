@@ -14,7 +14,7 @@ use Rattle.promises.specs.Vocabulary.{told}
 use Rattle.running.specs.Running.{Running}
 use Rattle.desk_open.specs.Opens.{openCall}
 use Rattle.desk_start.specs.Starts.{startCall}
-use Rattle.desk_plans.specs.Plans.{listCall, planCall}
+use Rattle.desk_plans.specs.Plans.{deskListCall, deskPlanCall}
 use Rattle.open_desk.specs.Answers.{saidOpen, saidStart}
 
 -- The offered calls: opening lent words with a book; and on these words, a start of a row at a minute, the list into a buffer, and the order
@@ -27,10 +27,10 @@ abbrev pub deskStart : (ws : List ℕ) → (row minute : ℕ) → Outcome Said
 deskStart ws i m = told saidStart (startCall ws i m)
 
 abbrev pub deskList : (ws b : List ℕ) → Outcome Said
-deskList ws b = told saidList (listCall ws b)
+deskList ws b = told saidList (deskListCall ws b)
 
 abbrev pub deskPlan : (ws : List ℕ) → ℕ → (b : List ℕ) → Outcome Said
-deskPlan ws k b = told saidOrder (planCall ws k b)
+deskPlan ws k b = told saidOrder (deskPlanCall ws k b)
 
 -- # A history is a list of calls on an open desk
 pub data Call : Type 0 where

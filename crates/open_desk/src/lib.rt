@@ -4,7 +4,7 @@ ghost use mathlib.Core.Path.{_≡_};
 ghost use Rattle.outcomes.specs.Planning.{gives};
 ghost use Rattle.desk_open.specs.Opens.{openCall};
 ghost use Rattle.desk_start.specs.Starts.{startCall};
-ghost use Rattle.desk_plans.specs.Plans.{listCall, planCall};
+ghost use Rattle.desk_plans.specs.Plans.{deskListCall, deskPlanCall};
 use desk_open::OpenAnswer;
 use desk_start::StartAnswer;
 use outcomes::ListAnswer;
@@ -29,14 +29,14 @@ pub fn start(desk: &mut [u32], row: u32, minute: u32) -> StartAnswer
 
 // The list of the rows left from the desk's minute on: for each plan two words, end and worst lateness in two's complement, by rising end.
 pub fn list(desk: &[u32], result: &mut [u32]) -> ListAnswer
-    ensures { λ r. ⌜ gives r (now (result .exit)) ≡ listCall (now (desk .entry)) (now (result .entry)) ⌝ }
+    ensures { λ r. ⌜ gives r (now (result .exit)) ≡ deskListCall (now (desk .entry)) (now (result .entry)) ⌝ }
 {
     desk_plans::list(desk, result)
 }
 
 // The order of a listed plan by its number from 1: row numbers of the rows left.
 pub fn order_of_plan(desk: &[u32], plan: u32, result: &mut [u32]) -> OrderAnswer
-    ensures { λ r. ⌜ gives r (now (result .exit)) ≡ planCall (now (desk .entry)) plan (now (result .entry)) ⌝ }
+    ensures { λ r. ⌜ gives r (now (result .exit)) ≡ deskPlanCall (now (desk .entry)) plan (now (result .entry)) ⌝ }
 {
     desk_plans::order_of_plan(desk, plan, result)
 }
