@@ -22,7 +22,7 @@ use Rattle.refusals.specs.declared.Tested.{Tested}
 use Rattle.refusals.specs.declared.Tested.the-variants.{Passed, Refused}
 use Rattle.pairs.proofs.Clashes.{passed-none, none-passes}
 use Rattle.readers.specs.Rules.{numberBy, ruleTests}
-use Rattle.readers.proofs.Rules.{clash-mutual, obeys, unclashing}
+use Rattle.readers.proofs.Rules.{clash-mutual, obeys, none-clashes}
 use Rattle.running.specs.Running.{Running, jobIn}
 use Rattle.running.proofs.Fits.{counted-at}
 use Rattle.rows_left.specs.Left.{plainLeft, plainRow, hasPassed, canPlan}
@@ -86,6 +86,6 @@ module _ (d : Running) where
         (leb→le _ latestDeskEnd (t .0), left-agree (obeys Ordering (plainLeft d) none)),
     λ h. let passes : ruleTests Ordering (plainLeft d) ≡ Passed =
         none-passes (clash-mutual Ordering) (numberBy Ordering) (plainLeft d)
-        (unclashing Ordering (plainLeft d) (plain-agree (h .1))) in
+        (none-clashes Ordering (plainLeft d) (plain-agree (h .1))) in
         rw (le-leb _ latestDeskEnd (h .0), passes),
   )

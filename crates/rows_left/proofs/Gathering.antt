@@ -80,7 +80,7 @@ module _ (ws : List ℕ) (left : Left) (g : Gathered ws left) where
       (λ x. record { release = g .released .filled k h x; length = g .timed .filled k h x; due = g .dated .filled k h x }) ∙
       sym (row-held ws (row (k + 1)) (r .0) (r .1))
 
-  pub same-jobs : (k : ℕ) → 1 ≤ k → k ≤ left .count → jobsOf (left .columns) k ≡ jobIn (rowsIn ws) (row k)
+  same-jobs : (k : ℕ) → 1 ≤ k → k ≤ left .count → jobsOf (left .columns) k ≡ jobIn (rowsIn ws) (row k)
   same-jobs = counted-from-one (left .count) (λ (k : ℕ). jobsOf (left .columns) k ≡ jobIn (rowsIn ws) (row k)) job-at
 
   -- The plain rows are so many, and have the same jobs.
