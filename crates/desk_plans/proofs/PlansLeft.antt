@@ -13,7 +13,7 @@ use Rattle.theory.specs.Jobs.{Job}
 use Rattle.schedule.specs.Limits.{mostRows}
 use Rattle.schedule.specs.declared.Profile.the-variants.{Ordering}
 use Rattle.schedule.specs.Rows.{countFrom}
-use Rattle.schedule.specs.Desk.{Pair, OrderOf, pairOf}
+use Rattle.schedule.specs.Desk.{Pair, OrderOf}
 use Rattle.schedule.specs.Cover.{Agreeing}
 use Rattle.schedule.specs.Profiles.{plansBy, orderBy}
 use Rattle.schedule.specs.Columns.{at}
@@ -31,7 +31,7 @@ use Rattle.outcomes.specs.Outcomes.{listOutcome, orderOutcome, planOutcome}
 use Rattle.outcomes.specs.Planning.{Outcome, gives, nth, Planning, planningIn}
 use Rattle.outcomes.specs.Plannable.{Plannable}
 use Rattle.outcomes.proofs.OutcomeLaws.{list-narrow, list-is, plan-is, plan-unlisted, order-narrow, order-some, order-none}
-use Rattle.outcomes.proofs.Sound.{Sound, posted}
+use Rattle.outcomes.proofs.Sound.{posted}
 use Rattle.outcomes.proofs.Columns.{sound-in, order-length, posting-rows}
 use Rattle.running.specs.Running.{Running, jobIn}
 use Rattle.running.specs.Words.{countIn, minuteIn, rowsIn, leftTo, running, isDesk, IsDesk}
@@ -72,20 +72,20 @@ ready ws left l e =
     let t = both-true (isDesk ws) (canPlan (running ws)) (sym (l .told) ∙ e) in
     record { here = sym (l .told) ∙ e; desk = desk-says ws .0 (t .0); can = t .1; rows = l .rows e }
 
--- With no row left there are no plans.
+-- A desk with other rows left. With none there are no plans.
+abbrev withLeft : Running → List ℕ → Running
+withLeft d is = record { rows = d .rows; left = is; minute = d .minute; worst = d .worst }
+
 list-empty : (d : Running) (is b : List ℕ) → length is ≡ 0 →
-    gives (list-answer.Plans 0) b ≡ listOutcome (planningLeft (record { rows = d .rows; left = is; minute = d .minute; worst = d .worst })) b
+    gives (list-answer.Plans 0) b ≡ listOutcome (planningLeft (withLeft d is)) b
 unfolding plansFrom written planWords
-list-empty d [] b h =
-    sym (list-is (planningLeft (record { rows = d .rows; left = []; minute = d .minute; worst = d .worst })) b (omega arith))
+list-empty d [] b h = sym (list-is (planningLeft (withLeft d [])) b (omega arith))
 list-empty d (i ∷ is) b h = let z : ⊥ = omega arith in absurd z
 
 plan-empty : (d : Running) (is b : List ℕ) (k : ℕ) → length is ≡ 0 →
-    gives (order-answer.Refused byUnlisted 0) b ≡
-    planOutcome (planningLeft (record { rows = d .rows; left = is; minute = d .minute; worst = d .worst })) k b
+    gives (order-answer.Refused byUnlisted 0) b ≡ planOutcome (planningLeft (withLeft d is)) k b
 unfolding plansFrom nth
-plan-empty d [] b k h =
-    sym (plan-unlisted (planningLeft (record { rows = d .rows; left = []; minute = d .minute; worst = d .worst })) k b (none-there k))
+plan-empty d [] b k h = sym (plan-unlisted (planningLeft (withLeft d [])) k b (none-there k))
   where
     none-there : (k : ℕ) → nth {A = Pair} [] k ≡ none
     none-there zero = refl

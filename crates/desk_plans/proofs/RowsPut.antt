@@ -5,7 +5,7 @@ use native.Mathlib.Omega.{arith}
 use native.Mathlib.Numerals.{add-one}
 use mathlib.Core.Path.{_≡_, sym, ap, _∙_}
 use mathlib.Core.List.{List, [], _∷_, _++_, map, map-append, append-assoc}
-use lib.ListN.{length, take, drop, set, length-append, length-drop, length-map}
+use lib.ListN.{length, take, drop, set, length-map}
 use lib.Seq.{length-take-le, take-suc, drop-cons, set-at, take-at, drop-at, getD-at}
 use Rattle.schedule.specs.Columns.{at}
 use Rattle.results.specs.Results.{written}
@@ -17,9 +17,6 @@ putTo row b i = map row (take i b) ++ drop i b
 module _ (row : ℕ → ℕ) (b : List ℕ) (i : ℕ) where
   front : i ≤ length b → length (map row (take i b)) ≡ i
   front h = length-map (take i b) row ∙ length-take-le i b h
-
-  pub put-length : i ≤ length b → length (putTo row b i) ≡ length b
-  put-length h = omega (arith, length-append (map row (take i b)) (drop i b), front h, length-drop i b)
 
   module _ (h : i < length b) where
     -- The word at i is as it was,

@@ -43,8 +43,7 @@ pub fn list(desk: &[u32], result: &mut [u32]) -> ListAnswer
     if !left.ready {
         return ListAnswer::Refused(Tested::RANGE, 0);
     }
-    let n = left.count;
-    if n == 0 {
+    if left.count == 0 {
         return ListAnswer::Plans(0);
     }
     outcomes::list_in(
@@ -52,7 +51,7 @@ pub fn list(desk: &[u32], result: &mut [u32]) -> ListAnswer
         &left.columns.release,
         &left.columns.length,
         &left.columns.due,
-        n,
+        left.count,
         desk[Layout::MINUTE],
         result,
     )
@@ -70,13 +69,14 @@ pub fn order_of_plan(desk: &[u32], plan: u32, result: &mut [u32]) -> OrderAnswer
     if n == 0 {
         return OrderAnswer::Refused(Tested::UNLISTED, 0);
     }
+    let minute = desk[Layout::MINUTE];
     let answer = outcomes::plan_in(
         Profile::Ordering,
         &left.columns.release,
         &left.columns.length,
         &left.columns.due,
         n,
-        desk[Layout::MINUTE],
+        minute,
         plan,
         result,
     );

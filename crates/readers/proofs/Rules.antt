@@ -109,9 +109,9 @@ not-outlasts r s h = step (ltb (r .release) (s .release)) refl
     step true e = rw (e, le-ltb (s .due) (r .due) (h (ltb-true (r .release) (s .release) e)))
     step false e = rw e
 
-pub unclashing : (profile : Profile) (rows : List Row) → Obeys profile (job rows) (allRows rows) → NoneClash (clashBy profile) rows
+pub none-clashes : (profile : Profile) (rows : List Row) → Obeys profile (job rows) (allRows rows) → NoneClash (clashBy profile) rows
 unfolding clashBy disagree cross
-unclashing Ordering rows h i j m n =
+none-clashes Ordering rows h i j m n =
     rw (not-tighter (row rows i) (row rows j) (h i j m n), not-tighter (row rows j) (row rows i) (h j i n m))
-unclashing FirstCome rows h i j m n =
+none-clashes FirstCome rows h i j m n =
     rw (not-outlasts (row rows i) (row rows j) (h i j m n), not-outlasts (row rows j) (row rows i) (h j i n m))

@@ -13,7 +13,7 @@ use borrow.Author.Tests.{le-leb}
 use Rattle.theory.specs.Jobs.{Job}
 use Rattle.schedule.specs.Limits.{longestLength, latestDeskEnd}
 use Rattle.schedule.specs.declared.Profile.the-variants.{Ordering}
-use Rattle.schedule.specs.Rows.{job, countFrom, allRows}
+use Rattle.schedule.specs.Rows.{job, allRows}
 use Rattle.schedule.specs.Cover.{Agreeing}
 use Rattle.schedule.specs.Columns.{at}
 use Rattle.schedule.proofs.Tests.{parts, is-true}
@@ -22,8 +22,8 @@ use Rattle.refusals.specs.declared.Tested.{Tested}
 use Rattle.refusals.specs.declared.Tested.the-variants.{Passed, Refused}
 use Rattle.pairs.proofs.Clashes.{passed-none, none-passes}
 use Rattle.readers.specs.Rules.{numberBy, ruleTests}
-use Rattle.readers.proofs.Rules.{clash-mutual, obeys, unclashing}
-use Rattle.running.specs.Running.{Running, jobIn, noJob}
+use Rattle.readers.proofs.Rules.{clash-mutual, obeys, none-clashes}
+use Rattle.running.specs.Running.{Running, jobIn}
 use Rattle.running.proofs.Fits.{counted-at}
 use Rattle.rows_left.specs.Left.{plainLeft, plainRow, hasPassed, canPlan}
 use Rattle.rows_left.proofs.Gathering.{plain-job}
@@ -85,6 +85,7 @@ module _ (d : Running) where
         let none = passed-none (clash-mutual Ordering) (numberBy Ordering) (plainLeft d) (has-passed _ (t .1)) in
         (leb→le _ latestDeskEnd (t .0), left-agree (obeys Ordering (plainLeft d) none)),
     λ h. let passes : ruleTests Ordering (plainLeft d) ≡ Passed =
-        none-passes (clash-mutual Ordering) (numberBy Ordering) (plainLeft d) (unclashing Ordering (plainLeft d) (plain-agree (h .1))) in
+        none-passes (clash-mutual Ordering) (numberBy Ordering) (plainLeft d)
+        (none-clashes Ordering (plainLeft d) (plain-agree (h .1))) in
         rw (le-leb _ latestDeskEnd (h .0), passes),
   )

@@ -8,7 +8,6 @@ use mathlib.Core.List.{List, map, List·Memᴰ}
 use lib.Dec.{leb}
 use lib.ListN.{length, getD, length-map, List·getD-map}
 use lib.Seq.{ext-getD}
-use Rattle.theory.specs.Jobs.{Job}
 use Rattle.schedule.specs.Limits.{mostRows, rowPlaces, latestMinute, longestLength, latestDue, latestDeskEnd}
 use Rattle.schedule.specs.declared.Profile.the-variants.{Ordering}
 use Rattle.schedule.specs.Rows.{jobOf, job, countFrom}
@@ -22,12 +21,12 @@ use Rattle.schedule.proofs.Filling.{counted-from-one}
 use Rattle.rows.specs.InColumns.{jobsOf, Within}
 use Rattle.readers.specs.Rules.{ruleTests}
 use Rattle.running.specs.Running.{Running, jobIn}
-use Rattle.running.specs.Words.{countIn, minuteIn, releases, lengths, dues, jobAt, rowsIn, leftTo, running, IsDesk}
+use Rattle.running.specs.Words.{countIn, minuteIn, releases, lengths, dues, rowsIn, leftTo, running, IsDesk}
 use Rattle.running.proofs.Fits.{counted-at, row-held}
 use Rattle.rows_left.specs.declared.Left.{Left}
 use Rattle.rows_left.specs.Left.{plainLeft, plainRow, hasPassed, canPlan}
 use Rattle.rows_left.specs.Gathered.{leftAt, wordLeft, FitTested, Gathered}
-use Rattle.rows_left.proofs.LeftRows.{Rising, left-rising, left-mem}
+use Rattle.rows_left.proofs.LeftRows.{left-rising, left-mem}
 
 -- The plain rows of a desk have the jobs of its rows left.
 pub plain-job : (d : Running) (k : ℕ) → job (plainLeft d) (suc k) ≡ jobIn (d .rows) (getD (d .left) k 0)
@@ -81,7 +80,7 @@ module _ (ws : List ℕ) (left : Left) (g : Gathered ws left) where
       (λ x. record { release = g .released .filled k h x; length = g .timed .filled k h x; due = g .dated .filled k h x }) ∙
       sym (row-held ws (row (k + 1)) (r .0) (r .1))
 
-  pub same-jobs : (k : ℕ) → 1 ≤ k → k ≤ left .count → jobsOf (left .columns) k ≡ jobIn (rowsIn ws) (row k)
+  same-jobs : (k : ℕ) → 1 ≤ k → k ≤ left .count → jobsOf (left .columns) k ≡ jobIn (rowsIn ws) (row k)
   same-jobs = counted-from-one (left .count) (λ (k : ℕ). jobsOf (left .columns) k ≡ jobIn (rowsIn ws) (row k)) job-at
 
   -- The plain rows are so many, and have the same jobs.
@@ -101,7 +100,8 @@ module _ (ws : List ℕ) (left : Left) (g : Gathered ws left) where
   unfolding canPlan
   can-plan-told b t =
       t (plainLeft (running ws)) plain-size plain-jobs ∙
-      ap (λ (n : ℕ). leb (minuteIn ws + longestLength * n) latestDeskEnd && hasPassed (ruleTests Ordering (plainLeft (running ws)))) (g .counted)
+      ap (λ (n : ℕ). leb (minuteIn ws + longestLength * n) latestDeskEnd && hasPassed (ruleTests Ordering (plainLeft (running ws))))
+      (g .counted)
 
   -- The rows left are those of the numbers 1 to n, in their order.
   left-mapped : leftTo ws (countIn ws) ≡ map row (countFrom 1 (left .count))

@@ -1,11 +1,11 @@
--- The rows left on a desk as its words hold them: one row more, how many they are, their range, and that they rise; and how they are noted.
+-- The rows left on a desk as its words hold them: how many they are, which, and that they rise; and how they are noted row by row.
 -- Assumes nothing.
 use Prim.Native.Nat.{ℕ, zero, suc, _+_, _≤_, _<_}
 use native.Mathlib.Omega.{arith}
 use native.Mathlib.Decide.{decLt}
 use native.Mathlib.Numerals.{add-one}
 use mathlib.Core.Bool.{Bool, true, false, cond}
-use mathlib.Core.Path.{_≡_, refl, sym, ap, _∙_, subst}
+use mathlib.Core.Path.{_≡_, sym, _∙_, subst}
 use mathlib.Core.List.{List, [], _∷_, _++_, List·Memᴰ, List·Memᴰ·not-nil, List·Memᴰ·append-cases, List·Memᴰ·eq-of-singleton}
 use mathlib.Core.Logic.{_⊎_, inl, inr}
 use lib.Dec.{eqb}
@@ -101,7 +101,8 @@ module _ (xs : List ℕ) (i m : ℕ) (rows : List ℕ) (inside : i < mostRows) (
 
   noted-more : (v : ℕ) → v ≡ suc i → NotedTo next (i + 1) (m + 1) (set rows (m + 1) v)
   noted-more v e =
-      let same : (k : ℕ) → k < m → getD xs k 0 ≡ getD next k 0 = λ k h. sym (List·getD-append xs (suc i ∷ []) 0 k (omega (arith, noted .0))) in
+      let same : (k : ℕ) → k < m → getD xs k 0 ≡ getD next k 0 =
+      λ k h. sym (List·getD-append xs (suc i ∷ []) 0 k (omega (arith, noted .0))) in
       let here : v ≡ getD next m 0 = e ∙ sym (getD-at xs (suc i) [] 0 m (sym (noted .0))) in
       let filled = filled-same rowPlaces (from 1) _ (λ k. getD next k 0) m rows same (noted .2) in (
         omega (arith, noted .0, length-append xs (suc i ∷ [])),

@@ -1,18 +1,18 @@
+-- `list` meets its contract: no desk to plan, no row left, then the list of the columns.
+-- Assumes nothing.
 use borrow.Author.Needs.{needs}
 use Prim.Native.Nat.{_≤_}
 use native.Mathlib.Omega.{arith}
 use mathlib.Core.Path.{sym, _∙_}
+use denote.Ref.{now}
 use borrow.Author.Tests.{not-true, not-false}
 use Rattle.desk_plans.proofs.PlansLeft.{Ready, ready, list-refused, list-none, plannable, list-done}
 use Rattle.desk_plans.proofs.list.Statement.{statement}
 use Rattle.desk_plans.proofs.list.Tie as tie
-use Rattle.desk_plans.proofs.list.Reads as reads
-use Rattle.desk_plans.proofs.list.Lts as lts
-use Rattle.outcomes.proofs.list_in.Reads as list-in-reads
-use Rattle.rows_left.proofs.look.Reads as look-reads
 
 -- The look is ready, and a row is left.
-here : (c : tie.After-left) → Ready (c .before .before .before .before .before .before .args .desk .now) (c .before .before .before .look .result)
+here : (c : tie.After-left) →
+    Ready (now (c .before .before .before .before .before .before .args .desk)) (c .before .before .before .look .result)
 here c = ready _ _ (c .before .before .before .look .ensures) (not-false _ (c .before .before .if1 .left))
 
 some-row : (c : tie.After-left) → 1 ≤ c .before .before .before .look .result .count
@@ -31,13 +31,15 @@ shared-slice-read-list-in : tie.Need-shared-slice-read-list-in
 shared-slice-read-list-in c = omega (arith, here (c .before .before .before .before) .desk .long)
 
 list-in-requires : tie.Need-list-in-requires
-list-in-requires c κs = plannable _ _ (here (c .before .before .before .before .before)) (some-row (c .before .before .before .before .before))
+list-in-requires c κs = let s = c .before .before .before .before .before in plannable _ _ (here s) (some-row s)
 
 same-length : tie.Need-same-length
 same-length c = search needs
 
 returns-3 : tie.Need-returns-3
-returns-3 c = c .before .before .list-in .ensures ∙ list-done _ _ (here (c .before .before .before .before .before .before .before .before)) (some-row (c .before .before .before .before .before .before .before .before)) _
+returns-3 c =
+    let s = c .before .before .before .before .before .before .before .before in
+    c .before .before .list-in .ensures ∙ list-done _ _ (here s) (some-row s) _
 
 pub list-spec : {M : Type 1} → statement M
 list-spec =

@@ -1,23 +1,22 @@
+-- `order_of_plan` meets its contract: no desk to plan, no row left, then the order of the columns with its rows put in.
+-- Assumes nothing.
 use borrow.Author.Needs.{needs}
 use Prim.Native.Nat.{_≤_}
 use native.Mathlib.Omega.{arith}
 use mathlib.Core.Path.{sym, _∙_}
+use denote.Ref.{now}
 use borrow.Author.Tests.{not-true, not-false}
 use Rattle.outcomes.specs.Planning.{gives}
 use Rattle.desk_plans.proofs.PlansLeft.{Ready, ready, plan-refused, plan-none, plannable, plan-done}
 use Rattle.desk_plans.proofs.order_of_plan.Statement.{statement}
 use Rattle.desk_plans.proofs.order_of_plan.Tie as tie
-use Rattle.desk_plans.proofs.order_of_plan.Reads as reads
-use Rattle.desk_plans.proofs.order_of_plan.Lts as lts
-use Rattle.desk_plans.proofs.put_rows.Reads as put-rows-reads
-use Rattle.outcomes.proofs.plan_in.Reads as plan-in-reads
-use Rattle.rows_left.proofs.look.Reads as look-reads
 
 -- The look is ready, and a row is left.
-here : (c : tie.After-left) → Ready (c .before .before .before .before .before .before .args .desk .now) (c .before .before .before .look .result)
+here : (c : tie.After-shared-slice-known2) →
+    Ready (now (c .before .before .before .before .before .before .args .desk)) (c .before .before .before .look .result)
 here c = ready _ _ (c .before .before .before .look .ensures) (not-false _ (c .before .before .if1 .left))
 
-some-row : (c : tie.After-left) → 1 ≤ c .before .before .before .look .result .count
+some-row : (c : tie.After-shared-slice-known2) → 1 ≤ c .before .before .before .look .result .count
 some-row c = omega (arith, c .before .if2 .left)
 
 look-requires : tie.Need-look-requires
@@ -29,11 +28,11 @@ returns c = plan-refused _ _ (sym (c .before .look .ensures .told) ∙ not-true 
 returns-2 : tie.Need-returns-2
 returns-2 c = plan-none _ _ (ready _ _ (c .before .before .look .ensures) (not-false _ (c .before .if1 .left))) (c .if2 .taken) _ _
 
-shared-slice-read-plan-in : tie.Need-shared-slice-read-plan-in
-shared-slice-read-plan-in c = omega (arith, here (c .before .before .before .before) .desk .long)
+shared-slice-read-minute : tie.Need-shared-slice-read-minute
+shared-slice-read-minute c = omega (arith, here c .desk .long)
 
 plan-in-requires : tie.Need-plan-in-requires
-plan-in-requires c κs = plannable _ _ (here (c .before .before .before .before .before)) (some-row (c .before .before .before .before .before))
+plan-in-requires c κs = let s = c .before .before .before .before .before in plannable _ _ (here s) (some-row s)
 
 enum-known-answer : tie.Need-enum-known-answer
 enum-known-answer c = search needs
@@ -42,14 +41,19 @@ same-length : tie.Need-same-length
 same-length c = search needs
 
 returns-3 : tie.Need-returns-3
-returns-3 c = plan-done _ _ (here (c .before .before .before .before .before .before .before .before .before .before .before)) (some-row (c .before .before .before .before .before .before .before .before .before .before .before)) _ _ _ (c .before .before .before .before .before .plan-in .ensures) (c .before .answer .given .1)
+returns-3 c =
+    let q = c .before .before .before .before .before in
+    let s = q .before .before .before .before .before .before in
+    plan-done _ _ (here s) (some-row s) _ _ _ (q .plan-in .ensures) (c .before .answer .given .1)
 
 enum-told : tie.Need-enum-told
 enum-told c = search needs
 
 put-rows-requires : tie.Need-put-rows-requires
 put-rows-requires c κs =
-    let p = plan-done _ _ (here (c .before .before .before .before .before .before .before .before .before .before .before .before .before)) (some-row (c .before .before .before .before .before .before .before .before .before .before .before .before .before)) _ _ _ (c .before .before .before .before .before .before .before .plan-in .ensures) (c .before .before .before .enum-told .given .1) in
+    let q = c .before .before .before .before .before .before .before in
+    let s = q .before .before .before .before .before .before in
+    let p = plan-done _ _ (here s) (some-row s) _ _ _ (q .plan-in .ensures) (c .before .before .before .enum-told .given .1) in
     (p .0, p .1)
 
 same-length-2 : tie.Need-same-length-2
@@ -57,8 +61,11 @@ same-length-2 c = search needs
 
 returns-4 : tie.Need-returns-4
 returns-4 c =
-    let p = plan-done _ _ (here (c .before .before .before .before .before .before .before .before .before .before .before .before .before .before .before .before)) (some-row (c .before .before .before .before .before .before .before .before .before .before .before .before .before .before .before .before)) _ _ _ (c .before .before .before .before .before .before .before .before .before .before .plan-in .ensures) (c .before .before .before .before .before .before .enum-told .given .1) in
-    (λ x. gives (c .before .before .before .before .before .before .enum-told .given .1 x) (c .before .before .put-rows .ensures x)) ∙ p .2
+    let q = c .before .before .before .before .before .before .before .before .before .before in
+    let s = q .before .before .before .before .before .before in
+    let told = c .before .before .before .before .before .before .enum-told .given .1 in
+    let p = plan-done _ _ (here s) (some-row s) _ _ _ (q .plan-in .ensures) told in
+    (λ x. gives (told x) (c .before .before .put-rows .ensures x)) ∙ p .2
 
 pub order-of-plan-spec : {M : Type 1} → statement M
 order-of-plan-spec =
@@ -67,7 +74,7 @@ order-of-plan-spec =
     look-requires
     returns
     returns-2
-    shared-slice-read-plan-in
+    shared-slice-read-minute
     plan-in-requires
     enum-known-answer
     same-length

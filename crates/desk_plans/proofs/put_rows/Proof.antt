@@ -1,3 +1,5 @@
+-- `put_rows` meets its contract: the first i words are written over.
+-- Assumes nothing.
 use borrow.Author.Needs.{needs}
 use Prim.Native.Nat.{ℕ, _-_, _≤_, _<_}
 use native.Mathlib.Omega.{arith}
@@ -9,9 +11,6 @@ use Rattle.schedule.proofs.Filling.{at-end}
 use Rattle.desk_plans.proofs.RowsPut.{putTo, put-at, put-next}
 use Rattle.desk_plans.proofs.put_rows.Statement.{statement}
 use Rattle.desk_plans.proofs.put_rows.Tie as tie
-use Rattle.desk_plans.proofs.put_rows.Reads as reads
-use Rattle.desk_plans.proofs.put_rows.Lts as lts
-use Rattle.desk_plans.proofs.row_at.Reads as row-at-reads
 
 abbrev Inv-loop : tie.InvT-loop
 Inv-loop rows n result₀ i₀ result i = (i ≤ n) × (result ≡ putTo (at rows) result₀ i) × (length result ≡ length result₀)

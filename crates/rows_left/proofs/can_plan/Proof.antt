@@ -1,12 +1,10 @@
+-- `can_plan` meets its contract: the rule of the rows, then the minute by which they end.
+-- Assumes nothing.
 use borrow.Author.Needs.{needs}
-use native.Mathlib.Omega.{arith}
 use mathlib.Core.Bool.{and-true, and-false}
 use mathlib.Core.Path.{sym, _∙_}
 use Rattle.rows_left.proofs.can_plan.Statement.{statement}
 use Rattle.rows_left.proofs.can_plan.Tie as tie
-use Rattle.rows_left.proofs.can_plan.Reads as reads
-use Rattle.rows_left.proofs.can_plan.Lts as lts
-use Rattle.readers.proofs.rule_tests.Reads as rule-tests-reads
 
 rule-tests-requires : tie.Need-rule-tests-requires
 rule-tests-requires c κs =
@@ -29,10 +27,16 @@ enum-told-2 : tie.Need-enum-told-2
 enum-told-2 c = search needs
 
 returns : tie.Need-returns
-returns c = λ rows n same. let told = sym (c .before .before .rule-tests .ensures rows n same) ∙ c .enum-told .given .1 in rw (told, and-true)
+returns c =
+    λ rows n same.
+    let told = sym (c .before .before .rule-tests .ensures rows n same) ∙ c .enum-told .given .1 in
+    rw (told, and-true)
 
 returns-2 : tie.Need-returns-2
-returns-2 c = λ rows n same. let told = sym (c .before .before .rule-tests .ensures rows n same) ∙ c .enum-told2 .given .1 in rw (told, and-false)
+returns-2 c =
+    λ rows n same.
+    let told = sym (c .before .before .rule-tests .ensures rows n same) ∙ c .enum-told2 .given .1 in
+    rw (told, and-false)
 
 pub can-plan-spec : {M : Type 1} → statement M
 can-plan-spec =

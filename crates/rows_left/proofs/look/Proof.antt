@@ -1,13 +1,11 @@
+-- `look` meets its contract: the rows are gathered where the words hold a desk.
+-- Assumes nothing.
 use borrow.Author.Needs.{needs}
 use mathlib.Core.Path.{sym, _∙_}
 use Rattle.refusals.proofs.Tests.{never}
 use Rattle.rows_left.specs.Left.{plansHere}
 use Rattle.rows_left.proofs.look.Statement.{statement}
 use Rattle.rows_left.proofs.look.Tie as tie
-use Rattle.rows_left.proofs.look.Reads as reads
-use Rattle.rows_left.proofs.look.Lts as lts
-use Rattle.rows_left.proofs.gather.Reads as gather-reads
-use Rattle.running.proofs.is_desk.Reads as is-desk-reads
 
 is-desk-requires : tie.Need-is-desk-requires
 is-desk-requires c κs = search needs

@@ -1,9 +1,9 @@
+-- `note` meets its contract: a row that is left is stored.
+-- Assumes nothing.
 use borrow.Author.Needs.{needs}
 use mathlib.Core.Path.{refl}
 use Rattle.rows_left.proofs.note.Statement.{statement}
 use Rattle.rows_left.proofs.note.Tie as tie
-use Rattle.rows_left.proofs.note.Reads as reads
-use Rattle.rows_left.proofs.note.Lts as lts
 
 cast-rows : tie.Need-cast-rows
 cast-rows c = search needs

@@ -1,7 +1,9 @@
+-- `numbers_left` meets its contract: the rows left among the first i are noted.
+-- Assumes nothing.
 use borrow.Author.Needs.{needs}
 use Prim.Native.Nat.{ℕ, _-_, _≤_}
 use native.Mathlib.Omega.{arith}
-use mathlib.Core.Path.{_≡_, refl}
+use mathlib.Core.Path.{refl}
 use Rattle.schedule.specs.Limits.{rowPlaces}
 use Rattle.schedule.specs.Filled.{from}
 use Rattle.schedule.proofs.Filling.{filled-first, at-end}
@@ -9,9 +11,6 @@ use Rattle.running.specs.Words.{countIn, leftTo}
 use Rattle.rows_left.proofs.LeftRows.{NotedTo, noted-next}
 use Rattle.rows_left.proofs.numbers_left.Statement.{statement}
 use Rattle.rows_left.proofs.numbers_left.Tie as tie
-use Rattle.rows_left.proofs.numbers_left.Reads as reads
-use Rattle.rows_left.proofs.numbers_left.Lts as lts
-use Rattle.rows_left.proofs.note.Reads as note-reads
 
 abbrev Inv-loop : tie.InvT-loop
 Inv-loop desk rows₀ n i₀ m₀ rows i m = (i ≤ countIn desk) × NotedTo (leftTo desk i) i m rows
@@ -60,7 +59,8 @@ returns : tie.Need-returns Inv-loop μ-loop
 returns c =
     let l = c .before .loop in
     let ws = c .before .before .before .before .args .desk .now in
-    let noted = at-end (λ (k : ℕ). NotedTo (leftTo ws k) k (l .m) (l .rows)) (l .i) (countIn ws) (l .inv .0) (c .loop-test .left) (l .inv .1) in
+    let noted =
+    at-end (λ (k : ℕ). NotedTo (leftTo ws k) k (l .m) (l .rows)) (l .i) (countIn ws) (l .inv .0) (c .loop-test .left) (l .inv .1) in
     (noted .0, noted .2)
 
 pub numbers-left-spec : {M : Type 1} → statement M
