@@ -112,9 +112,9 @@ pub fn of_open(answer: OpenAnswer) -> Answer
     ensures { λ r. ⌜ r ≡ answerOf (saidOpen answer) ⌝ }
 {
     match answer {
-        OpenAnswer::Opened(count, minute) => Answer {
+        OpenAnswer::Opened(rows, minute) => Answer {
             place: 0,
-            count: count,
+            count: rows,
             refusal: 0,
             end: 0,
             late: 0,

@@ -1,21 +1,20 @@
 -- Histories: what a desk holds after calls, one after another.
 -- Assumes nothing.
-use Prim.Native.Nat.{ℕ, zero, suc, _+_, _*_, _≤_, _<_}
+use Prim.Native.Nat.{ℕ, zero, suc, _+_, _*_, _≤_}
 use native.Mathlib.Omega.{arith}
-use mathlib.Core.Bool.{Bool, true, false, cond}
+use mathlib.Core.Bool.{Bool, true, false}
 use mathlib.Core.Path.{_≡_, refl, sym, ap, _∙_, subst}
 use mathlib.Core.List.{List, [], _∷_, _++_, map, append-nil, append-assoc, List·Memᴰ}
 use lib.Dec.{eqb}
 use lib.ListN.{length}
-use borrow.Author.Tests.{eqb-true, eqb-false, ne-eqb}
+use borrow.Author.Tests.{eqb-false, ne-eqb}
 use Rattle.schedule.specs.Limits.{mostRows, latestDeskEnd, longestLength}
 use Rattle.schedule.specs.declared.Profile.the-variants.{Ordering}
 use Rattle.schedule.specs.Offset.{raised}
-use Rattle.schedule.specs.Rows.{Day, rowNumbers, without}
+use Rattle.schedule.specs.Rows.{Day}
 use Rattle.schedule.proofs.Numbers.{length-count}
 use Rattle.schedule.proofs.Orders.{length-without}
 use Rattle.schedule.proofs.Stands.{stands-mem}
-use Rattle.schedule.proofs.Tests.{false-is-true}
 use Rattle.refusals.specs.declared.Tested.the-variants as tested
 use Rattle.refusals.specs.Refusals.{byRange}
 use Rattle.readers.specs.Accepted.{AcceptedDay}
@@ -75,8 +74,10 @@ alone ws (starts i m ∷ cs) = step (eqb (deskStart ws i m .answer .number) 0) r
     rest : List Start
     rest = acceptedStarts (deskStart ws i m .buffer) cs
 
-    step : (b : Bool) → eqb (deskStart ws i m .answer .number) 0 ≡ b → after (deskStart ws i m .buffer) (map asCall rest) ≡ after (deskStart ws i m .buffer) cs →
-        after ws (map asCall (withStart (deskStart ws i m .answer .number) (record { row = i; minute = m }) rest)) ≡ after (deskStart ws i m .buffer) cs
+    step : (b : Bool) → eqb (deskStart ws i m .answer .number) 0 ≡ b →
+        after (deskStart ws i m .buffer) (map asCall rest) ≡ after (deskStart ws i m .buffer) cs →
+        after ws (map asCall (withStart (deskStart ws i m .answer .number) (record { row = i; minute = m }) rest)) ≡
+        after (deskStart ws i m .buffer) cs
     step true e later = rw e later
     step false e later =
         let refused = eqb-false (deskStart ws i m .answer .number) 0 e in

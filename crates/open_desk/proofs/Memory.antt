@@ -1,11 +1,11 @@
 -- Property 1 of the open desk's calls: what becomes of the lent words, and the numbers that refusals tell.
 -- Assumes nothing.
-use Prim.Native.Nat.{ℕ, zero, suc, _+_, _*_, _≤_, _<_}
+use Prim.Native.Nat.{ℕ, _+_, _≤_}
 use native.Mathlib.Omega.{arith}
 use native.Mathlib.Decide.{decLe}
 use mathlib.Core.Bool.{Bool, true, false}
 use mathlib.Core.Path.{_≡_, refl, sym, ap, _∙_, subst}
-use mathlib.Core.List.{List, [], _∷_, _++_}
+use mathlib.Core.List.{List, _++_}
 use mathlib.Core.Logic.{_⊎_, inl, inr}
 use lib.ListN.{length, drop, getD, set, length-set}
 use lib.Seq.{getD-set-other, drop-append-seam}
@@ -25,16 +25,16 @@ use Rattle.promises.specs.Table.{BookRefused, by-word, disorder, crossed}
 use Rattle.promises.proofs.Accepted.{book-refused}
 use Rattle.promises.proofs.Numbers.{wrong-numbered}
 use Rattle.running.specs.Running.{Running, endAt, worstAt}
-use Rattle.running.specs.Words.{deskWords, running, marks, isDesk, IsDesk, movedWords}
-use Rattle.desk_open.specs.Opens.{openedWords, deskTerms, openCall}
+use Rattle.running.specs.Words.{deskWords, running, marks, isDesk, movedWords}
+use Rattle.desk_open.specs.Opens.{openedWords, deskTerms}
 use Rattle.desk_open.proofs.Opened.{opened-held, opened-long}
 use Rattle.open_desk.specs.Answers.{saidOpen, saidStart}
 use Rattle.open_desk.specs.History.{deskOpen, deskStart}
-use Rattle.open_desk.specs.Table.{OpenTurned, narrow, StartTurned, unlisted, done, early}
+use Rattle.open_desk.specs.Table.{StartTurned, unlisted, done, early}
 use Rattle.open_desk.specs.Promise.{Lent}
 use Rattle.open_desk.proofs.Starts.{Found, refuses, passes, found}
 use Rattle.open_desk.proofs.Histories.{start-none, start-no, start-yes}
-use Rattle.open_desk.proofs.Refused.{open-no, open-short, open-yes, open-turned}
+use Rattle.open_desk.proofs.Refused.{open-no, open-short, open-yes}
 
 -- A call that is refused, and one that is not.
 lent-no : {Numbers : ℕ → Type 0} (n p : ℕ) (lent : List ℕ) → Numbers n → Lent Numbers lent (gives (saidNo n p) lent)

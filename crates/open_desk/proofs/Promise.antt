@@ -1,54 +1,50 @@
 -- What is promised of the open desk holds.
 -- Assumes nothing.
-use Prim.Native.Nat.{ℕ, zero, suc, _+_, _-_, _*_, _≤_, _<_}
+use Prim.Native.Nat.{ℕ, _+_, _-_, _*_, _≤_, _<_}
 use native.Mathlib.Omega.{arith}
 use mathlib.Core.Bool.{Bool, true, false, cond}
 use mathlib.Core.Path.{_≡_, refl, sym, ap, _∙_, subst}
-use mathlib.Core.List.{List, [], _∷_, _++_, map, List·Memᴰ, List·Memᴰ·head, List·Memᴰ·tail}
+use mathlib.Core.List.{List, [], _∷_, map, List·Memᴰ, List·Memᴰ·head, List·Memᴰ·tail}
 use mathlib.Core.Logic.{_↔_, _⊎_, inl, inr}
 use lib.ListN.{length}
 use lib.IntN.{pos}
 use lib.Signed.{_≤ℤ_}
-use Rattle.schedule.specs.Limits.{mostRows, latestMinute, longestLength, latestDue, latestDeskEnd, leastLateness}
+use Rattle.schedule.specs.Limits.{mostRows, longestLength, latestDue, latestDeskEnd, leastLateness}
 use Rattle.schedule.specs.declared.Profile.the-variants.{Ordering}
 use Rattle.schedule.specs.Cover.{Agreeing}
-use Rattle.schedule.specs.Desk.{Pair, OrderOf}
-use Rattle.schedule.specs.Profiles.{Obeys}
-use Rattle.schedule.specs.Rows.{jobOf, Day, jobs, rowNumbers, stands}
+use Rattle.schedule.specs.Desk.{Pair}
+use Rattle.schedule.specs.Rows.{Day, rowNumbers, stands}
 use Rattle.schedule.proofs.Ranges.{in-range}
-use Rattle.refusals.specs.Refusals.{byRange}
 use Rattle.book.specs.Rows.{accepted}
 use Rattle.readers.specs.Accepted.{AcceptedDay}
-use Rattle.readers.specs.Reads.{readBy}
 use Rattle.readers.proofs.Accepted.{accepted-day}
 use Rattle.results.specs.Results.{written, planWords}
 use Rattle.results.proofs.ResultWords.{plan-length}
-use Rattle.outcomes.specs.Planning.{Outcome, gives, Planning}
+use Rattle.outcomes.specs.Planning.{Planning}
 use Rattle.outcomes.specs.Outcomes.{listOutcome, planOutcome}
 use Rattle.outcomes.proofs.OutcomeLaws.{list-is, plan-unlisted}
-use Rattle.outcomes.proofs.Sound.{Sound}
-use Rattle.calls.specs.Answers.{Said, saidList, saidOrder}
-use Rattle.promises.specs.Vocabulary.{told, saidCount, Refuses, listed, ReaderOrder, endBy, lateBy, Accepts}
+use Rattle.calls.specs.Answers.{saidList, saidOrder}
+use Rattle.promises.specs.Vocabulary.{told, saidCount, Refuses, listed, ReaderOrder, endBy, lateBy}
 use Rattle.promises.specs.Table.{ListTurned, PlanTurned}
 use Rattle.promises.specs.Table as table
 use Rattle.promises.specs.Promise.{Covered, PlanOrders}
 use Rattle.promises.proofs.Accepted.{accepts}
 use Rattle.promises.proofs.Kept.{covered, plan-orders}
 use Rattle.promises.proofs.Memory as memory
-use Rattle.running.specs.Running.{Running, opened, jobIn, endAt, worstAt, startTests}
-use Rattle.running.specs.Words.{deskWords, running, isDesk, IsDesk}
+use Rattle.running.specs.Running.{Running, jobIn, endAt, worstAt}
+use Rattle.running.specs.Words.{running, isDesk}
 use Rattle.running.proofs.Fits.{desk-says}
-use Rattle.rows_left.specs.Left.{canPlan, plansHere}
+use Rattle.rows_left.specs.Left.{plansHere}
 use Rattle.desk_open.specs.Opens.{openedWords, deskTerms}
 use Rattle.desk_open.proofs.Opened.{opened-held}
 use Rattle.desk_plans.specs.Plans.{planningLeft}
-use Rattle.open_desk.specs.Answers.{saidOpen, saidStart, saidOpened, saidMoved}
+use Rattle.open_desk.specs.Answers.{saidOpen, saidStart, saidMoved}
 use Rattle.open_desk.specs.History.{deskOpen, deskStart, deskList, deskPlan, Call, after, Start, acceptedStarts, notTaken, standing}
 use Rattle.open_desk.specs.Table.{StartTurned, CanPlan, DeskTurned, no-desk, by-call}
-use Rattle.open_desk.specs.Promise.{Lent, DeskProperty1, DeskProperty2, Kept, OpenDesk}
+use Rattle.open_desk.specs.Promise.{DeskProperty1, DeskProperty2, Kept, OpenDesk}
 use Rattle.open_desk.proofs.Standing.{job-held}
 use Rattle.open_desk.proofs.Starts.{Found, refuses, passes, found}
-use Rattle.open_desk.proofs.Histories.{start-none, start-no, start-yes, alone, State, first, leaves}
+use Rattle.open_desk.proofs.Histories.{start-no, start-yes, alone, State, first, leaves}
 use Rattle.open_desk.proofs.Refused as refused
 use Rattle.open_desk.proofs.Memory.{open-kept, start-writes}
 
@@ -73,7 +69,8 @@ module _ (day : Day) (a : AcceptedDay Ordering day) (done : List Start) where
   d = standing day done
 
   agree : Agreeing (jobIn (d .rows)) (d .left)
-  agree i j m n = rw (job-held day i, job-held day j) (a .rule i j (left-row day done (rowNumbers day) i m) (left-row day done (rowNumbers day) j n))
+  agree i j m n = rw (job-held day i, job-held day j)
+      (a .rule i j (left-row day done (rowNumbers day) i m) (left-row day done (rowNumbers day) j n))
 
   -- Ends and latenesses: the minute leaves room for the rows left.
   in-time : length (d .left) ≤ mostRows → d .minute + longestLength * length (d .left) ≤ latestDeskEnd → 0 < length (d .left) →
@@ -246,5 +243,7 @@ open-desk book ws day accepts-it wide =
     let a = accepted-day deskTerms book day reads in
     let opens = refused.open-yes book ws day reads wide in
     let h = opened-held day ws a wide in
-    let begun = subst (State day []) (sym (ap (λ o. o .buffer) opens)) (first day a (written (openedWords day) ws) (h .0) (h .1)) in
-    (ap (λ o. saidOpen (o .answer)) opens, λ calls. kept day a (deskOpen book ws .buffer) calls (leaves day [] (deskOpen book ws .buffer) begun calls))
+    let begun = subst (State day []) (sym (ap (λ o. o .buffer) opens)) (first day a (written (openedWords day) ws) (h .0) (h .1)) in (
+      ap (λ o. saidOpen (o .answer)) opens,
+      λ calls. kept day a (deskOpen book ws .buffer) calls (leaves day [] (deskOpen book ws .buffer) begun calls),
+    )

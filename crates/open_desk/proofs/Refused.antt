@@ -1,28 +1,24 @@
 -- Each call of an open desk is refused exactly as the table says.
 -- Assumes nothing.
-use Prim.Native.Nat.{ℕ, zero, suc, _+_, _*_, _≤_, _<_}
+use Prim.Native.Nat.{ℕ, zero, suc, _≤_, _<_}
 use native.Mathlib.Omega.{arith}
 use native.Mathlib.Decide.{decLe}
-use mathlib.Core.Bool.{Bool, true, false, _&&_}
-use mathlib.Core.Path.{_≡_, refl, sym, ap, _∙_, subst}
+use mathlib.Core.Bool.{Bool, true, false}
+use mathlib.Core.Path.{_≡_, refl, sym, ap, _∙_}
 use mathlib.Core.List.{List, [], _∷_}
 use mathlib.Core.Logic.{_↔_}
 use mathlib.Core.Option.{none}
-use lib.Dec.{T}
 use lib.ListN.{length}
 use borrow.Author.Tests.{lt-ltb, le-ltb}
-use Rattle.schedule.specs.Limits.{latestDeskEnd, longestLength}
 use Rattle.schedule.specs.declared.Profile.the-variants.{Ordering}
-use Rattle.schedule.specs.Cover.{Agreeing}
 use Rattle.schedule.specs.Desk.{Pair}
 use Rattle.schedule.specs.Rows.{Day}
 use Rattle.schedule.proofs.Tests.{false-is-true, is-true, true-is, parts}
-use Rattle.refusals.specs.declared.Tested.the-variants as tested
 use Rattle.refusals.specs.Refusals.{byRange, byNarrow, byUnlisted}
 use Rattle.book.specs.Rows.{refused, accepted}
 use Rattle.readers.specs.Reads.{readBy}
 use Rattle.results.specs.Results.{written}
-use Rattle.outcomes.specs.Planning.{Outcome, gives, nth, Planning}
+use Rattle.outcomes.specs.Planning.{gives, nth, Planning}
 use Rattle.outcomes.specs.Outcomes.{listOutcome, planOutcome}
 use Rattle.outcomes.specs.declared.ListAnswer.the-variants as list-answer
 use Rattle.outcomes.specs.declared.OrderAnswer.the-variants as order-answer
@@ -34,7 +30,7 @@ use Rattle.promises.specs.Vocabulary.{Refuses}
 use Rattle.promises.specs.Table.{Turned, ListTurned, PlanTurned}
 use Rattle.promises.specs.Table as table
 use Rattle.promises.proofs.Refused.{says-no, says-yes, turned, list-turned, plan-turned}
-use Rattle.running.specs.Running.{Running, jobIn, startTests}
+use Rattle.running.specs.Running.{jobIn}
 use Rattle.running.specs.Words.{deskWords, running, isDesk, IsDesk}
 use Rattle.running.proofs.Fits.{desk-says}
 use Rattle.rows_left.specs.Left.{canPlan, plansHere}
@@ -113,8 +109,8 @@ module _ (ws : List ℕ) (i m : ℕ) where
     where
       step : Found (running ws) i m → (n p : ℕ) → Refuses (deskStart ws i m .answer) n p ↔ StartTurned (running ws) i m n p
       step (refuses n p l t u only) =
-          says-no (deskStart ws i m .answer) (StartTurned (running ws) i m) n p l (ap (λ o. saidStart (o .answer)) (start-no ws i m e n p t))
-          u only
+          says-no (deskStart ws i m .answer) (StartTurned (running ws) i m) n p l
+          (ap (λ o. saidStart (o .answer)) (start-no ws i m e n p t)) u only
       step (passes t never) =
           says-yes (deskStart ws i m .answer) (StartTurned (running ws) i m)
           (ap (λ o. saidStart (o .answer) .number) (start-yes ws i m e t)) never

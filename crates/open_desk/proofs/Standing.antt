@@ -1,24 +1,22 @@
 -- What starts come to: with none, and with one more after the others.
 -- Assumes nothing.
-use Prim.Native.Nat.{ℕ, zero, suc, _+_, _≤_, _<_}
+use Prim.Native.Nat.{ℕ, zero, suc, _+_, _<_}
 use native.Mathlib.Omega.{arith}
-use native.Mathlib.Decide.{decLe}
-use mathlib.Core.Bool.{Bool, true, false, cond, _||_, or-false}
-use mathlib.Core.Path.{_≡_, refl, sym, ap, _∙_, subst}
+use mathlib.Core.Bool.{Bool, true, false, _||_, or-false}
+use mathlib.Core.Path.{_≡_, refl, sym, ap, _∙_}
 use mathlib.Core.List.{List, [], _∷_, _++_, map, map-append}
 use mathlib.Core.Option.{Option, none, some}
-use lib.Dec.{T, eqb}
-use lib.ListN.{length, getD, List·getD-map}
-use lib.IntN.{ℤ, subℕ}
+use lib.Dec.{eqb}
+use lib.ListN.{length, List·getD-map}
+use lib.IntN.{ℤ}
 use lib.Signed.{leZ}
 use borrow.Author.Tests.{eqb-true, eqb-false, eq-eqb, ne-eqb}
-use Rattle.schedule.specs.declared.Row.{Row}
-use Rattle.schedule.specs.Rows.{noRow, jobOf, job, Day, jobs, countFrom, rowNumbers, stands, without}
+use Rattle.schedule.specs.Rows.{noRow, jobOf, Day, jobs, countFrom, rowNumbers, stands, without}
 use Rattle.schedule.specs.Desk.{maxZ, worstOf}
 use Rattle.schedule.proofs.Tests.{false-is-true, true-is, is-true, true-is, is-false}
 use Rattle.schedule.proofs.Signed.{leZ-trans, leZ-total}
 use Rattle.schedule.proofs.Stands.{stands-behind}
-use Rattle.running.specs.Running.{Running, opened, noJob, jobIn, worse, moved, endAt, worstAt}
+use Rattle.running.specs.Running.{opened, jobIn, worse, moved}
 use Rattle.open_desk.specs.History.{Start, endOfStart, latenessOfStart, minuteAfter, notTaken, worstSoFar, standing}
 
 -- What planning sees of a row is the same on the desk as of the day.

@@ -2,7 +2,7 @@
 -- Assumes nothing.
 use Prim.Native.Nat.{ℕ, _≤_, _<_}
 use native.Mathlib.Omega.{arith}
-use mathlib.Core.Bool.{Bool, true, false, not, _||_}
+use mathlib.Core.Bool.{Bool, true, false, _||_}
 use mathlib.Core.Path.{_≡_, refl, sym, _∙_}
 use mathlib.Core.List.{List·Memᴰ}
 use mathlib.Core.Logic.{_⊎_, inl, inr}
@@ -13,7 +13,6 @@ use Rattle.schedule.specs.Limits.{latestStart}
 use Rattle.schedule.specs.Rows.{stands}
 use Rattle.schedule.proofs.Tests.{false-is-true, true-is, is-true, true-is, or-cases, neither}
 use Rattle.schedule.proofs.Stands.{stands-mem, mem-stands}
-use Rattle.refusals.specs.declared.Tested.{Tested}
 use Rattle.refusals.specs.declared.Tested.the-variants as tested
 use Rattle.refusals.specs.Refusals.{byUnlisted, byDone, byEarly}
 use Rattle.refusals.specs.Tests.{refuseIf, _then_}

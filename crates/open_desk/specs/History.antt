@@ -1,7 +1,7 @@
 -- The calls of an open desk by the paper's numbers; histories, which are lists of such calls; and what accepted starts come to.
 -- Rests on: the calls (desk_open, desk_start, desk_plans), Answers, the schedule's rows and desk.
 use Prim.Native.Nat.{ℕ, _+_}
-use mathlib.Core.Bool.{Bool, true, false, cond}
+use mathlib.Core.Bool.{cond}
 use mathlib.Core.List.{List, [], _∷_, map}
 use mathlib.Core.Option.{Option, none, some}
 use lib.Dec.{eqb}
@@ -17,9 +17,9 @@ use Rattle.desk_start.specs.Starts.{startCall}
 use Rattle.desk_plans.specs.Plans.{deskListCall, deskPlanCall}
 use Rattle.open_desk.specs.Answers.{saidOpen, saidStart}
 
--- The offered calls: opening lent words with a book; and on these words, a start of a row at a minute, the list into a buffer, and the order
--- of a listed plan by its number from 1. What is lent for writing is given with the answer, as it is after the call: the desk's words by
--- the first two, the buffer by the others. These are lent the desk for reading.
+-- The offered calls: opening lent words with a book; and on these words, a start of a row at a minute, the list into a buffer, and the
+-- order of a listed plan by its number from 1. What is lent for writing is given with the answer, as it is after the call: the desk's words
+-- by the first two, the buffer by the others. These are lent the desk for reading.
 abbrev pub deskOpen : (book ws : List ℕ) → Outcome Said
 deskOpen book ws = told saidOpen (openCall book ws)
 

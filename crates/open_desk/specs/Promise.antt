@@ -16,7 +16,7 @@ use Rattle.outcomes.specs.Planning.{Outcome, Planning}
 use Rattle.promises.specs.Vocabulary.{Refuses, saidCount, listed, ReaderOrder, endBy, lateBy, Accepts}
 use Rattle.promises.specs.Table.{Turned, ListTurned, PlanTurned}
 use Rattle.promises.specs.Promise.{Covered, PlanOrders}
-use Rattle.running.specs.Running.{Running, endAt, worstAt}
+use Rattle.running.specs.Running.{endAt, worstAt}
 use Rattle.running.specs.Words.{deskWords, running, marks, IsDesk}
 use Rattle.desk_plans.specs.Plans.{planningLeft}
 use Rattle.open_desk.specs.Answers.{saidOpened, saidMoved}
@@ -91,4 +91,5 @@ module _ (day : Day) (opened : List ℕ) (calls : List Call) where
 -- Whatever accepted book a desk is opened with, and whatever calls come after.
 abbrev pub OpenDesk : Type 0
 OpenDesk = (book ws : List ℕ) (day : Day) → Accepts Ordering book day → deskWords ≤ length ws →
-    (deskOpen book ws .answer ≡ saidOpened (length (day .rows)) (day .free)) × ((calls : List Call) → Kept day (deskOpen book ws .buffer) calls)
+    (deskOpen book ws .answer ≡ saidOpened (length (day .rows)) (day .free)) ×
+    ((calls : List Call) → Kept day (deskOpen book ws .buffer) calls)

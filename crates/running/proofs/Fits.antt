@@ -4,14 +4,13 @@ use Prim.Native.Nat.{ℕ, zero, suc, _+_, _≤_, _<_}
 use native.Mathlib.Omega.{arith}
 use native.Mathlib.Numerals.{add-one}
 use native.Mathlib.Decide.{decLe}
-use mathlib.Core.Bool.{Bool, true, false, _&&_, _||_}
-use mathlib.Core.Path.{_≡_, refl, sym, ap, _∙_, subst}
+use mathlib.Core.Bool.{true, _&&_, _||_}
+use mathlib.Core.Path.{_≡_, refl, ap, _∙_, subst}
 use mathlib.Core.List.{List, map}
 use mathlib.Core.Logic.{_↔_, _⊎_, inl, inr}
 use lib.Dec.{T, leb, eqb, leb→le, le→leb}
 use lib.ListN.{length, getD, length-map}
 use borrow.Author.Tests.{eqb-true}
-use Rattle.theory.specs.Jobs.{Job}
 use Rattle.schedule.specs.Limits.{mostRows, latestMinute, longestLength, latestDue, latestStand}
 use Rattle.schedule.specs.Rows.{countFrom}
 use Rattle.schedule.specs.Columns.{at}
@@ -152,7 +151,9 @@ counted-at f none k (suc n) (suc i) h =
 
 pub row-held : (ws : List ℕ) (i : ℕ) → 1 ≤ i → i ≤ countIn ws → jobIn (rowsIn ws) i ≡ jobAt ws i
 row-held ws zero h g = let z : ⊥ = omega arith in absurd z
-row-held ws (suc i) h g = let e : 1 + i ≡ suc i = omega arith in counted-at (jobAt ws) noJob 1 (countIn ws) i (omega arith) ∙ ap (jobAt ws) e
+row-held ws (suc i) h g =
+    let e : 1 + i ≡ suc i = omega arith in
+    counted-at (jobAt ws) noJob 1 (countIn ws) i (omega arith) ∙ ap (jobAt ws) e
 
 pub rows-length : (ws : List ℕ) → length (rowsIn ws) ≡ countIn ws
 rows-length ws = length-map (countFrom 1 (countIn ws)) (jobAt ws) ∙ length-count 1 (countIn ws)

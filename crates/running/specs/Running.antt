@@ -1,8 +1,8 @@
--- The running desk: the rows it was opened with, those left, its minute, and the worst lateness so far. Its starts, and what is planned on
--- it. Rests on: the schedule's rows and plans, the tests in sequence, what is planned (outcomes).
-use Prim.Native.Nat.{ℕ, _+_, _*_}
+-- The running desk: the rows it was opened with, those left, its minute, and the worst lateness so far. Its starts.
+-- Rests on: the schedule's rows, the tests in sequence.
+use Prim.Native.Nat.{ℕ, _+_}
 use mathlib.Core.Bool.{Bool, not, _&&_, _||_}
-use mathlib.Core.List.{List, [], _∷_, map}
+use mathlib.Core.List.{List, _∷_, map}
 use mathlib.Core.Option.{Option, none, some}
 use lib.Dec.{leb, ltb}
 use lib.ListN.{length, getD}

@@ -7,8 +7,8 @@ ghost use Rattle.running.specs.Running.{between};
 ghost use Rattle.running.specs.Words.{deskWords, columnFits, headFits, rowsFit, isDesk};
 use schedule::Desk;
 
-// Where the numbers of a desk stand in its words. Row i has word i of each column, counted from 1: a column is named by the place before its
-// first word.
+// Where the numbers of a desk stand in its words. Row i has word i of each column, counted from 1: a column is named by the place before
+// its first word.
 pub struct Layout {}
 
 impl Layout {

@@ -1,4 +1,4 @@
--- Whether a number stands among others: none, one more in front, one more behind. A number stands in a list exactly if it is a member of it.
+-- Whether a number stands among others: none, one more in front, one more behind. It does exactly if it is a member of them.
 -- Assumes nothing.
 use Prim.Native.Nat.{ℕ, _+_, _<_}
 use native.Mathlib.Numerals.{add-one}

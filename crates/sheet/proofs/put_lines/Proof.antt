@@ -1,7 +1,6 @@
 -- `put_lines` meets its contract: each branch has the lines that the definition gives there.
 -- Assumes nothing.
 use borrow.Author.Needs.{needs}
-use native.Mathlib.Omega.{arith}
 use native.Mathlib.Nat.{le-refl}
 use mathlib.Core.Path.{sym, ap, _∙_}
 use Rattle.outcomes.specs.declared.ListAnswer.{ListAnswer}

@@ -4,12 +4,12 @@ use borrow.Author.Needs.{needs}
 use Prim.Native.Nat.{_≤_, _+_, _*_, _-_}
 use native.Mathlib.Omega.{arith}
 use mathlib.Core.Path.{ap}
-use lib.ListN.{length, take, getD}
+use lib.ListN.{take, getD}
 use lib.Seq.{take-all}
 use Rattle.lines.specs.Added.{Added}
 use Rattle.lines.proofs.Adding.{none-added, then-added, same-added}
 use Rattle.sheet.specs.Shown.{planLines}
-use Rattle.sheet.specs.Parts.{linesOf, lineFor, Listed}
+use Rattle.sheet.specs.Parts.{linesOf, lineFor}
 use Rattle.sheet.proofs.Plans.{next-line}
 use Rattle.sheet.proofs.put_plans.Statement.{statement}
 use Rattle.sheet.proofs.put_plans.Tie as tie
