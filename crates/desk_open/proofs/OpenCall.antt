@@ -13,7 +13,7 @@ use Rattle.schedule.specs.Rows.{noRow, row, job, Day}
 use Rattle.schedule.specs.Columns.{at, columns}
 use Rattle.refusals.specs.declared.Tested.the-variants.{Passed}
 use Rattle.refusals.specs.Refusals.{byNarrow}
-use Rattle.book.specs.Rows.{refused}
+use Rattle.book.specs.Rows.{refused, accepted}
 use Rattle.rows.specs.InColumns.{jobsOf}
 use Rattle.readers.specs.declared.Given.{Given}
 use Rattle.readers.specs.Reads.{readBy, Gives}
@@ -28,10 +28,21 @@ use Rattle.desk_open.proofs.Puts.{put-written}
 use Rattle.desk_open.proofs.Opened.{releaseOf, lengthOf, dueOf, withHead, withDues, withLengths, dues-room, lengths-room}
 use Rattle.desk_open.proofs.Opened.{releases-room}
 
-pub open-refused : (book ws : List ℕ) (n p : ℕ) → readBy deskTerms book ≡ refused n p →
-    gives (open-answer.Refused n p) ws ≡ openCall book ws
-unfolding openCall
-open-refused book ws n p reads = sym (rw (reads, openCall))
+-- By what the reader gives: a refused book; a run that is too short; a desk.
+module _ (book ws : List ℕ) where
+  pub open-no : (n p : ℕ) → readBy deskTerms book ≡ refused n p → openCall book ws ≡ gives (open-answer.Refused n p) ws
+  unfolding openCall
+  open-no n p e = rw (e, openCall)
+
+  module _ (day : Day) (e : readBy deskTerms book ≡ accepted day) where
+    pub open-short : length ws < deskWords → openCall book ws ≡ gives (open-answer.Refused byNarrow 0) ws
+    unfolding openCall
+    open-short h = rw (e, openCall, lt-ltb (length ws) deskWords h)
+
+    pub open-yes : deskWords ≤ length ws →
+        openCall book ws ≡ gives (open-answer.Opened (length (day .rows)) (day .free)) (written (openedWords day) ws)
+    unfolding openCall
+    open-yes h = rw (e, openCall, le-ltb (length ws) deskWords h)
 
 -- The first places of a column, from 1 on: a number of each row.
 column-rows : (f : Row → ℕ) → f noRow ≡ 0 → (column : List ℕ) (rows : List Row) → length rows < length column →
@@ -85,16 +96,14 @@ module _ (book : List ℕ) (r : Given) (g : Gives (readBy deskTerms book) r) (e 
       (omega (arith, d .count), d .columns .releases, d .columns .lengths, d .columns .dues)
 
   pub open-narrow : (ws : List ℕ) → length ws < deskWords → gives (open-answer.Refused byNarrow 0) ws ≡ openCall book ws
-  unfolding openCall
-  open-narrow ws h = sym (rw (d .contents, openCall, lt-ltb (length ws) deskWords h))
+  open-narrow ws h = sym (open-short book ws (d .day) (d .contents) h)
 
   pub open-done : (ws : List ℕ) → deskWords ≤ length ws → (new : List ℕ) →
       ((rows : List Row) → length rows ≡ r .count → ((i : ℕ) → 1 ≤ i → i ≤ r .count → jobsOf (r .columns) i ≡ job rows i) →
       new ≡ written (openedWords (record { free = r .free; rows = rows })) ws) →
       gives (open-answer.Opened (r .count) (r .free)) new ≡ openCall book ws
-  unfolding openCall
   open-done ws wide new puts =
       let words = puts (d .day .rows) (sym (d .count)) (λ i h k. d .columns .jobs i h (omega (arith, d .count))) ∙
       ap (λ (t : ℕ). written (openedWords (record { free = t; rows = d .day .rows })) ws) (d .free) in
       (λ x. gives (open-answer.Opened (d .count x) (d .free x)) (words x)) ∙
-      sym (rw (d .contents, openCall, le-ltb (length ws) deskWords wide))
+      sym (open-yes book ws (d .day) (d .contents) wide)

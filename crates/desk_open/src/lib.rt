@@ -1,6 +1,6 @@
 // Opening a desk: the rows of an accepted book into a lent run of words.
 ghost use mathlib.Core.Path.{_≡_};
-ghost use Prim.Native.Nat.{ℕ, _+_, _≤_};
+ghost use Prim.Native.Nat.{ℕ, _+_, _≤_, _<_};
 ghost use mathlib.Core.List.{List, [], _∷_};
 ghost use lib.ListN.{length, take, drop, replicate};
 ghost use Rattle.schedule.specs.Limits.{mostRows, rowPlaces};
@@ -44,7 +44,7 @@ fn put_head(desk: &mut [u32], count: u32, minute: u32)
 
 // The first n rows of a column, into the column of the desk that begins after a place.
 fn put_column(desk: &mut [u32], before: usize, column: &[u32; Desk::PLACES], n: usize)
-    requires { ⌜ (n ≤ mostRows) × (before + mostRows ≤ 1287) × (deskWords ≤ length (now desk)) ×
+    requires { ⌜ (n ≤ mostRows) × (before + mostRows < deskWords) × (deskWords ≤ length (now desk)) ×
         (length (now column) ≡ rowPlaces) ⌝ }
     ensures { λ _. ⌜ now (desk .exit) ≡ put (before + 1) (take n (drop 1 (now (column .entry)))) (now (desk .entry)) ⌝ }
 {

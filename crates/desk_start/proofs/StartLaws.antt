@@ -8,13 +8,13 @@ use lib.Dec.{eqb, ltb}
 use borrow.Author.Tests.{not-false}
 use Rattle.schedule.specs.Limits.{latestStart}
 use Rattle.schedule.specs.Columns.{at}
-use Rattle.schedule.specs.Offset.{lowered}
+use Rattle.schedule.specs.Offset.{raised, lowered}
 use Rattle.schedule.proofs.Tests.{is-true}
 use Rattle.refusals.specs.declared.Tested.the-variants.{Passed, Refused}
 use Rattle.refusals.specs.Refusals.{byRange, byUnlisted, byDone, byEarly}
 use Rattle.refusals.specs.Tests.{refuseIf, _then_}
 use Rattle.outcomes.specs.Planning.{gives}
-use Rattle.running.specs.Running.{between, startTests}
+use Rattle.running.specs.Running.{between, startTests, endAt, worstAt}
 use Rattle.running.specs.Words.{countIn, minuteIn, worstIn, releases, lengths, dues, marks, running, isDesk, IsDesk, movedWords}
 use Rattle.running.proofs.Fits.{lies, desk-says, row-held, rows-length}
 use Rattle.running.proofs.Left.{left-stands}
@@ -40,25 +40,31 @@ module _ (ws : List ℕ) (i m : ℕ) where
         rw (rows-length ws, h, left-stands ws (countIn ws) i (l .0) (l .1), row-held ws i (l .0) (l .1))
 
   -- No desk; a start that is turned down; one that is not.
-  pub call-none : isDesk ws ≡ false → gives (start-answer.Refused byRange 0) ws ≡ startCall ws i m
+  pub start-none : isDesk ws ≡ false → startCall ws i m ≡ gives (start-answer.Refused byRange 0) ws
   unfolding startCall
-  call-none e = rw (e, startCall)
+  start-none e = rw (e, startCall)
 
   module _ (desk : isDesk ws ≡ true) where
-    pub call-refused : (n p : ℕ) → startTests (running ws) i m ≡ Refused n p → gives (start-answer.Refused n p) ws ≡ startCall ws i m
+    pub start-no : (n p : ℕ) → startTests (running ws) i m ≡ Refused n p → startCall ws i m ≡ gives (start-answer.Refused n p) ws
     unfolding startCall startOutcome
-    call-refused n p e = rw (desk, startCall, e, startOutcome)
+    start-no n p e = rw (desk, startCall, e, startOutcome)
 
+    pub start-yes : startTests (running ws) i m ≡ Passed →
+        startCall ws i m ≡ gives (start-answer.Moved (endAt (running ws) i m) (worstAt (running ws) i m))
+        (movedWords ws i (endAt (running ws) i m) (raised (worstAt (running ws) i m)))
+    unfolding startCall startOutcome
+    start-yes e = rw (desk, startCall, e, startOutcome)
+
+    -- The end and the worst lateness so far, from the words.
     abbrev end : ℕ
     end = m + at ws (lengths + i)
 
     abbrev worst : ℕ
     worst = max (worstIn ws) (end + 2147483648 - at ws (dues + i))
 
-    pub call-moved : startTests (running ws) i m ≡ Passed →
+    pub start-moved : startTests (running ws) i m ≡ Passed →
         gives (start-answer.Moved end (lowered worst)) (movedWords ws i end worst) ≡ startCall ws i m
-    unfolding startCall startOutcome
-    call-moved e =
+    start-moved e =
         let d : IsDesk ws = desk-says ws .0 desk in
         (λ x. gives (start-answer.Moved (end-held ws d i m e x) (worst-held ws d i m e x))
-        (movedWords ws i (end-held ws d i m e x) (worst-raised ws d i m e x))) ∙ sym (rw (desk, startCall, e, startOutcome))
+        (movedWords ws i (end-held ws d i m e x) (worst-raised ws d i m e x))) ∙ sym (start-yes e)

@@ -16,48 +16,29 @@ use Rattle.schedule.proofs.Numbers.{length-count}
 use Rattle.schedule.proofs.Orders.{length-without}
 use Rattle.schedule.proofs.Stands.{stands-mem}
 use Rattle.refusals.specs.declared.Tested.the-variants as tested
-use Rattle.refusals.specs.Refusals.{byRange}
 use Rattle.readers.specs.Accepted.{AcceptedDay}
-use Rattle.outcomes.specs.Planning.{gives}
 use Rattle.running.specs.Running.{Running, opened, startTests, endAt, worstAt, moved}
 use Rattle.running.specs.Words.{running, isDesk, IsDesk, movedWords}
 use Rattle.running.proofs.Fits.{desk-says}
 use Rattle.running.proofs.Starts.{may-start}
 use Rattle.running.proofs.Moves.{moved-held}
-use Rattle.desk_start.specs.declared.StartAnswer.the-variants as start-answer
-use Rattle.desk_start.specs.Starts.{startOutcome, startCall}
+use Rattle.desk_start.proofs.StartLaws.{start-none, start-no, start-yes}
 use Rattle.open_desk.specs.Answers.{saidStart}
 use Rattle.open_desk.specs.History.{deskStart, Call, starts, lists, orders, afterCall, after, Start, withStart, withCall}
 use Rattle.open_desk.specs.History.{acceptedStarts, asCall, standing}
 use Rattle.open_desk.proofs.Standing.{at-first, one-more}
 use Rattle.open_desk.proofs.Starts.{Found, refuses, passes, found}
 
--- A start by what its tests have found.
 module _ (ws : List ℕ) (i m : ℕ) where
-  pub start-none : isDesk ws ≡ false → startCall ws i m ≡ gives (start-answer.Refused byRange 0) ws
-  unfolding startCall
-  start-none e = rw (e, startCall)
-
-  pub start-no : isDesk ws ≡ true → (n p : ℕ) → startTests (running ws) i m ≡ tested.Refused n p →
-      startCall ws i m ≡ gives (start-answer.Refused n p) ws
-  unfolding startCall startOutcome
-  start-no desk n p e = rw (desk, startCall, e, startOutcome)
-
-  pub start-yes : isDesk ws ≡ true → startTests (running ws) i m ≡ tested.Passed →
-      startCall ws i m ≡ gives (start-answer.Moved (endAt (running ws) i m) (worstAt (running ws) i m))
-      (movedWords ws i (endAt (running ws) i m) (raised (worstAt (running ws) i m)))
-  unfolding startCall startOutcome
-  start-yes desk e = rw (desk, startCall, e, startOutcome)
-
   -- A refused start leaves the desk as it is.
   pub start-kept : 1 ≤ deskStart ws i m .answer .number → deskStart ws i m .buffer ≡ ws
   start-kept h = step (isDesk ws) refl (found (running ws) i m)
     where
       step : (b : Bool) → isDesk ws ≡ b → Found (running ws) i m → deskStart ws i m .buffer ≡ ws
-      step false e f = ap (λ o. o .buffer) (start-none e)
-      step true e (refuses n p l t u only) = ap (λ o. o .buffer) (start-no e n p t)
+      step false e f = ap (λ o. o .buffer) (start-none ws i m e)
+      step true e (refuses n p l t u only) = ap (λ o. o .buffer) (start-no ws i m e n p t)
       step true e (passes t never) =
-          let zero = ap (λ o. saidStart (o .answer) .number) (start-yes e t) in
+          let zero = ap (λ o. saidStart (o .answer) .number) (start-yes ws i m e t) in
           let z : ⊥ = omega (arith, h, zero) in
           absurd z
 

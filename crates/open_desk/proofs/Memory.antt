@@ -21,6 +21,7 @@ use Rattle.results.specs.Results.{written}
 use Rattle.outcomes.specs.Planning.{Outcome, gives}
 use Rattle.calls.specs.Answers.{Said, saidNo}
 use Rattle.promises.specs.Vocabulary.{told}
+use Rattle.promises.specs.Promise.{Lent}
 use Rattle.promises.specs.Table.{BookRefused, by-word, disorder, crossed}
 use Rattle.promises.proofs.Accepted.{book-refused}
 use Rattle.promises.proofs.Numbers.{wrong-numbered}
@@ -28,23 +29,22 @@ use Rattle.running.specs.Running.{Running, endAt, worstAt}
 use Rattle.running.specs.Words.{deskWords, running, marks, isDesk, movedWords}
 use Rattle.desk_open.specs.Opens.{openedWords, deskTerms}
 use Rattle.desk_open.proofs.Opened.{opened-held, opened-long}
+use Rattle.desk_open.proofs.OpenCall.{open-no, open-short, open-yes}
+use Rattle.desk_start.proofs.StartLaws.{start-none, start-no, start-yes}
 use Rattle.open_desk.specs.Answers.{saidOpen, saidStart}
 use Rattle.open_desk.specs.History.{deskOpen, deskStart}
 use Rattle.open_desk.specs.Table.{StartTurned, unlisted, done, early}
-use Rattle.open_desk.specs.Promise.{Lent}
 use Rattle.open_desk.proofs.Starts.{Found, refuses, passes, found}
-use Rattle.open_desk.proofs.Histories.{start-none, start-no, start-yes}
-use Rattle.open_desk.proofs.Refused.{open-no, open-short, open-yes}
 
 -- A call that is refused, and one that is not.
 lent-no : {Numbers : ℕ → Type 0} (n p : ℕ) (lent : List ℕ) → Numbers n → Lent Numbers lent (gives (saidNo n p) lent)
-lent-no n p lent h = record { number = λ l. h; kept = λ l. refl; same-length = refl }
+lent-no n p lent h = record { number = λ l. h; buffer = λ l. refl; same-length = refl }
 
 lent-yes : {Numbers : ℕ → Type 0} (said : Said) (lent new : List ℕ) → said .number ≡ 0 → length new ≡ length lent →
     Lent Numbers lent (gives said new)
 lent-yes said lent new e h = record {
   number = λ l. let z : ⊥ = omega arith in absurd z;
-  kept = λ l. let z : ⊥ = omega arith in absurd z;
+  buffer = λ l. let z : ⊥ = omega arith in absurd z;
   same-length = h;
 }
 
@@ -64,8 +64,8 @@ book-numbers (crossed e day t k c) = absurd (not-first-come e)
 
 module _ (book ws : List ℕ) where
   -- A refused opening leaves the words; another writes those of a desk, and leaves the words after them.
-  abbrev Kept : Outcome Said → Type 0
-  Kept o = Lent (λ n. (1 ≤ n) × (n ≤ 9)) ws o × (drop deskWords (o .buffer) ≡ drop deskWords ws)
+  abbrev OpenWrites : Outcome Said → Type 0
+  OpenWrites o = Lent (λ n. (1 ≤ n) × (n ≤ 9)) ws o × (drop deskWords (o .buffer) ≡ drop deskWords ws)
 
   written-past : (day : Day) → readBy deskTerms book ≡ accepted day → drop deskWords (written (openedWords day) ws) ≡ drop deskWords ws
   unfolding written
@@ -74,22 +74,22 @@ module _ (book ws : List ℕ) where
       ap (λ (n : ℕ). drop n (openedWords day ++ drop (length (openedWords day)) ws)) (sym long) ∙
       (drop-append-seam (openedWords day) (drop (length (openedWords day)) ws) ∙ ap (λ (n : ℕ). drop n ws) long)
 
-  pub open-kept : Kept (deskOpen book ws)
-  open-kept = step (readBy deskTerms book) refl
+  pub open-writes : OpenWrites (deskOpen book ws)
+  open-writes = step (readBy deskTerms book) refl
     where
-      room : (day : Day) → readBy deskTerms book ≡ accepted day → Dec (deskWords ≤ length ws) → Kept (deskOpen book ws)
+      room : (day : Day) → readBy deskTerms book ≡ accepted day → Dec (deskWords ≤ length ws) → OpenWrites (deskOpen book ws)
       room day e (yes h) =
-          subst Kept (sym (ap (told saidOpen) (open-yes book ws day e h))) (
+          subst OpenWrites (sym (ap (told saidOpen) (open-yes book ws day e h))) (
             lent-yes _ ws (written (openedWords day) ws) refl (opened-held day ws (accepted-day deskTerms book day e) h .2),
             written-past day e,
           )
       room day e (no h) =
-          subst Kept (sym (ap (told saidOpen) (open-short book ws day e (omega arith))))
+          subst OpenWrites (sym (ap (told saidOpen) (open-short book ws day e (omega arith))))
           (lent-no byNarrow 0 ws (omega arith, omega arith), refl)
 
-      step : (x : Contents) → readBy deskTerms book ≡ x → Kept (deskOpen book ws)
+      step : (x : Contents) → readBy deskTerms book ≡ x → OpenWrites (deskOpen book ws)
       step (refused n p) e =
-          subst Kept (sym (ap (told saidOpen) (open-no book ws n p e)))
+          subst OpenWrites (sym (ap (told saidOpen) (open-no book ws n p e)))
           (lent-no n p ws (book-numbers (book-refused deskTerms book n p .0 e)), refl)
       step (accepted day) e = room day e (decLe deskWords (length ws))
 

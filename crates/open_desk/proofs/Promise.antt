@@ -37,16 +37,18 @@ use Rattle.running.proofs.Fits.{desk-says}
 use Rattle.rows_left.specs.Left.{plansHere}
 use Rattle.desk_open.specs.Opens.{openedWords, deskTerms}
 use Rattle.desk_open.proofs.Opened.{opened-held}
+use Rattle.desk_open.proofs.OpenCall.{open-yes}
+use Rattle.desk_start.proofs.StartLaws.{start-no, start-yes}
 use Rattle.desk_plans.specs.Plans.{planningLeft}
 use Rattle.open_desk.specs.Answers.{saidOpen, saidStart, saidMoved}
 use Rattle.open_desk.specs.History.{deskOpen, deskStart, deskList, deskPlan, Call, after, Start, acceptedStarts, notTaken, standing}
 use Rattle.open_desk.specs.Table.{StartTurned, CanPlan, DeskTurned, no-desk, by-call}
-use Rattle.open_desk.specs.Promise.{DeskProperty1, DeskProperty2, Kept, OpenDesk}
+use Rattle.open_desk.specs.Promise.{DeskProperty1, DeskProperty2, AfterCalls, OpenDesk}
 use Rattle.open_desk.proofs.Standing.{job-held}
 use Rattle.open_desk.proofs.Starts.{Found, refuses, passes, found}
-use Rattle.open_desk.proofs.Histories.{start-no, start-yes, alone, State, first, leaves}
+use Rattle.open_desk.proofs.Histories.{alone, State, first, leaves}
 use Rattle.open_desk.proofs.Refused as refused
-use Rattle.open_desk.proofs.Memory.{open-kept, start-writes}
+use Rattle.open_desk.proofs.Memory.{open-writes, start-writes}
 
 -- A row that no start has taken is one of the rows.
 left-row : (day : Day) (done : List Start) (is : List ℕ) (i : ℕ) → List·Memᴰ i (notTaken day done is) → List·Memᴰ i is
@@ -133,19 +135,19 @@ module _ (ws : List ℕ) where
 
 pub desk-memory : DeskProperty1
 desk-memory = record {
-  of-open = λ book ws. open-kept book ws .0;
+  of-open = λ book ws. open-writes book ws .0;
   of-start = λ ws i m. start-writes ws i m .0;
   of-list = λ ws b. let k = list-buffer ws b in record {
     number = λ h. list-numbers ws b _ _ (refused.list-refused ws b _ _ .0 (h, refl, refl));
-    kept = k .refused;
+    buffer = k .refused;
     same-length = k .same-length;
   };
   of-plan = λ ws k b. let u = plan-buffer ws k b in record {
     number = λ h. plan-numbers ws k b _ _ (refused.plan-refused ws k b _ _ .0 (h, refl, refl));
-    kept = u .refused;
+    buffer = u .refused;
     same-length = u .same-length;
   };
-  open-writes = λ book ws. open-kept book ws .1;
+  open-writes = λ book ws. open-writes book ws .1;
   start-writes = λ ws i m. start-writes ws i m .1;
 }
 
@@ -216,8 +218,8 @@ module _ (day : Day) (a : AcceptedDay Ordering day) (first-words : List ℕ) (ca
       list-is g b (omega (arith, ap (λ (js : List ℕ). length js) e))) ∙
       ap (λ (ps : List Pair). saidCount (length ps)) (refused.no-plans words e)
 
-  kept : Kept day first-words calls
-  kept = record {
+  after-calls : AfterCalls day first-words calls
+  after-calls = record {
     word-for-word = sym (alone first-words calls);
     holds = s .held;
     start-refused = λ i m n p.
@@ -241,9 +243,9 @@ pub open-desk : OpenDesk
 open-desk book ws day accepts-it wide =
     let reads = accepts deskTerms book day .1 accepts-it in
     let a = accepted-day deskTerms book day reads in
-    let opens = refused.open-yes book ws day reads wide in
+    let opens = open-yes book ws day reads wide in
     let h = opened-held day ws a wide in
     let begun = subst (State day []) (sym (ap (λ o. o .buffer) opens)) (first day a (written (openedWords day) ws) (h .0) (h .1)) in (
       ap (λ o. saidOpen (o .answer)) opens,
-      λ calls. kept day a (deskOpen book ws .buffer) calls (leaves day [] (deskOpen book ws .buffer) begun calls),
+      λ calls. after-calls day a (deskOpen book ws .buffer) calls (leaves day [] (deskOpen book ws .buffer) begun calls),
     )

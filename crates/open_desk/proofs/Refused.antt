@@ -9,7 +9,6 @@ use mathlib.Core.List.{List, [], _∷_}
 use mathlib.Core.Logic.{_↔_}
 use mathlib.Core.Option.{none}
 use lib.ListN.{length}
-use borrow.Author.Tests.{lt-ltb, le-ltb}
 use Rattle.schedule.specs.declared.Profile.the-variants.{Ordering}
 use Rattle.schedule.specs.Desk.{Pair}
 use Rattle.schedule.specs.Rows.{Day}
@@ -17,7 +16,6 @@ use Rattle.schedule.proofs.Tests.{false-is-true, is-true, true-is, parts}
 use Rattle.refusals.specs.Refusals.{byRange, byNarrow, byUnlisted}
 use Rattle.book.specs.Rows.{refused, accepted}
 use Rattle.readers.specs.Reads.{readBy}
-use Rattle.results.specs.Results.{written}
 use Rattle.outcomes.specs.Planning.{gives, nth, Planning}
 use Rattle.outcomes.specs.Outcomes.{listOutcome, planOutcome}
 use Rattle.outcomes.specs.declared.ListAnswer.the-variants as list-answer
@@ -36,15 +34,15 @@ use Rattle.running.proofs.Fits.{desk-says}
 use Rattle.rows_left.specs.Left.{canPlan, plansHere}
 use Rattle.rows_left.proofs.CanPlan.{can-plan-says}
 use Rattle.rows_left.proofs.Gathering.{left-ranged}
-use Rattle.desk_open.specs.declared.OpenAnswer.the-variants as open-answer
-use Rattle.desk_open.specs.Opens.{openedWords, deskTerms, openCall}
+use Rattle.desk_open.specs.Opens.{deskTerms}
+use Rattle.desk_open.proofs.OpenCall.{open-no, open-short, open-yes}
 use Rattle.desk_plans.specs.Plans.{plansFrom, planningLeft, deskListCall, deskPlanCall}
 use Rattle.desk_plans.proofs.Sound.{sound-left}
 use Rattle.open_desk.specs.Answers.{saidOpen, saidStart}
 use Rattle.open_desk.specs.History.{deskOpen, deskStart, deskList, deskPlan}
 use Rattle.open_desk.specs.Table.{OpenTurned, narrow, StartTurned, CanPlan, DeskTurned, no-desk, by-call}
 use Rattle.open_desk.proofs.Starts.{Found, refuses, passes, found}
-use Rattle.open_desk.proofs.Histories.{start-none, start-no, start-yes}
+use Rattle.desk_start.proofs.StartLaws.{start-none, start-no, start-yes}
 
 nth-none : (k : ℕ) → nth {A = Pair} [] k ≡ none
 nth-none zero = nth-zero []
@@ -52,20 +50,7 @@ nth-none (suc k) = nth-out [] (suc k) (omega arith)
 
 -- # Opening
 module _ (book ws : List ℕ) where
-  pub open-no : (n p : ℕ) → readBy deskTerms book ≡ refused n p → openCall book ws ≡ gives (open-answer.Refused n p) ws
-  unfolding openCall
-  open-no n p e = rw (e, openCall)
-
   module _ (day : Day) (e : readBy deskTerms book ≡ accepted day) where
-    pub open-short : length ws < deskWords → openCall book ws ≡ gives (open-answer.Refused byNarrow 0) ws
-    unfolding openCall
-    open-short h = rw (e, openCall, lt-ltb (length ws) deskWords h)
-
-    pub open-yes : deskWords ≤ length ws →
-        openCall book ws ≡ gives (open-answer.Opened (length (day .rows)) (day .free)) (written (openedWords day) ws)
-    unfolding openCall
-    open-yes h = rw (e, openCall, le-ltb (length ws) deskWords h)
-
     open-own : (n p : ℕ) → Refuses (deskOpen book ws .answer) n p ↔ OpenTurned ws n p
     open-own = step (decLe deskWords (length ws))
       where
@@ -76,15 +61,15 @@ module _ (book ws : List ℕ) where
         wide h _ _ (narrow l) = omega arith
 
         step : Dec (deskWords ≤ length ws) → (n p : ℕ) → Refuses (deskOpen book ws .answer) n p ↔ OpenTurned ws n p
-        step (yes h) = says-yes (deskOpen book ws .answer) (OpenTurned ws) (ap (λ o. saidOpen (o .answer) .number) (open-yes h)) (wide h)
+        step (yes h) = says-yes (deskOpen book ws .answer) (OpenTurned ws) (ap (λ o. saidOpen (o .answer) .number) (open-yes book ws day e h)) (wide h)
         step (no h) =
             let short : length ws < deskWords = omega arith in
-            says-no (deskOpen book ws .answer) (OpenTurned ws) byNarrow 0 (omega arith) (ap (λ o. saidOpen (o .answer)) (open-short short))
+            says-no (deskOpen book ws .answer) (OpenTurned ws) byNarrow 0 (omega arith) (ap (λ o. saidOpen (o .answer)) (open-short book ws day e short))
             (narrow short) only
 
   pub open-turned : (n p : ℕ) → Refuses (deskOpen book ws .answer) n p ↔ Turned Ordering book (λ day. OpenTurned ws) n p
   open-turned = turned deskTerms book (λ day. OpenTurned ws) (deskOpen book ws .answer)
-      (λ n p e. ap (λ o. saidOpen (o .answer)) (open-no n p e)) open-own
+      (λ n p e. ap (λ o. saidOpen (o .answer)) (open-no book ws n p e)) open-own
 
 -- # Calls on lent words: these are no desk that the call can work on, or they are, and the call is refused by a condition of its own.
 module _ (said : Said) (Here : Type 0) (Own : (n p : ℕ) → Type 0) where

@@ -11,11 +11,10 @@ use lib.Signed.{_≤ℤ_}
 use Rattle.schedule.specs.Limits.{latestDeskEnd, leastLateness, longestLength}
 use Rattle.schedule.specs.declared.Profile.the-variants.{Ordering}
 use Rattle.schedule.specs.Rows.{Day}
-use Rattle.calls.specs.Answers.{Said}
-use Rattle.outcomes.specs.Planning.{Outcome, Planning}
+use Rattle.outcomes.specs.Planning.{Planning}
 use Rattle.promises.specs.Vocabulary.{Refuses, saidCount, listed, ReaderOrder, endBy, lateBy, Accepts}
 use Rattle.promises.specs.Table.{Turned, ListTurned, PlanTurned}
-use Rattle.promises.specs.Promise.{Covered, PlanOrders}
+use Rattle.promises.specs.Promise.{Lent, Covered, PlanOrders}
 use Rattle.running.specs.Running.{endAt, worstAt}
 use Rattle.running.specs.Words.{deskWords, running, marks, IsDesk}
 use Rattle.desk_plans.specs.Plans.{planningLeft}
@@ -24,12 +23,8 @@ use Rattle.open_desk.specs.History.{deskOpen, deskStart, deskList, deskP
 use Rattle.open_desk.specs.Table.{OpenTurned, StartTurned, CanPlan, DeskTurned}
 
 -- # 1. The lent memory, of any words whatever
--- A refused call leaves what it is lent for writing, word for word, and its number is one of these. No call makes a run longer or shorter.
-pub record Lent (Numbers : ℕ → Type 0) (lent : List ℕ) (o : Outcome Said) : Type 0 where
-  pub number : 1 ≤ o .answer .number → Numbers (o .answer .number)
-  pub kept : 1 ≤ o .answer .number → o .buffer ≡ lent
-  pub same-length : length (o .buffer) ≡ length lent
-
+-- A refused call leaves what it is lent for writing, word for word, and its number is one of these; no call makes a run longer or shorter
+-- (`Lent`, of the promises of a book's calls).
 pub record DeskProperty1 : Type 0 where
   pub of-open : (book ws : List ℕ) → Lent (λ n. (1 ≤ n) × (n ≤ 9)) ws (deskOpen book ws)
   pub of-start : (ws : List ℕ) (i m : ℕ) → Lent (λ n. (n ≡ 3) ⊎ (n ≡ 11) ⊎ (n ≡ 14) ⊎ (n ≡ 15)) ws (deskStart ws i m)
@@ -54,27 +49,27 @@ pub record DeskProperty2 : Type 0 where
 -- # 3. The open desk, over any series of calls
 -- A day's desk, opened, has these words; then these calls are made on it.
 module _ (day : Day) (opened : List ℕ) (calls : List Call) where
-  abbrev pub done : List Start
-  done = acceptedStarts opened calls
+  abbrev pub started : List Start
+  started = acceptedStarts opened calls
 
   abbrev pub here : List ℕ
   here = after opened calls
 
   -- What is planned now: the rows left, from the desk's minute on.
   abbrev pub planned : Planning
-  planned = planningLeft (standing day done)
+  planned = planningLeft (standing day started)
 
-  pub record Kept : Type 0 where
+  pub record AfterCalls : Type 0 where
     -- The desk holds what the accepted starts alone give: word for word what it would hold if they alone had been called ..
-    pub word-for-word : here ≡ after opened (map asCall done)
+    pub word-for-word : here ≡ after opened (map asCall started)
     -- .. and they give this: the rows that none of them took are left; the desk stands at the end of the last; the worst lateness so far
     -- is the largest of theirs.
-    pub holds : running here ≡ standing day done
+    pub holds : running here ≡ standing day started
     -- The next start is refused exactly so. Otherwise it answers the desk's new minute and the worst lateness so far, as that start and
     -- those before it give them.
-    pub start-refused : (i m n p : ℕ) → Refuses (deskStart here i m .answer) n p ↔ StartTurned (standing day done) i m n p
+    pub start-refused : (i m n p : ℕ) → Refuses (deskStart here i m .answer) n p ↔ StartTurned (standing day started) i m n p
     pub start-moves : (i m : ℕ) → deskStart here i m .answer .number ≡ 0 →
-        deskStart here i m .answer ≡ saidMoved (endAt (standing day done) i m) (worstAt (standing day done) i m)
+        deskStart here i m .answer ≡ saidMoved (endAt (standing day started) i m) (worstAt (standing day started) i m)
     -- The list and an order are refused for a short buffer, and an order for a plan's number that is not on the list; for nothing else.
     pub list-refused : (b : List ℕ) (n p : ℕ) → Refuses (deskList here b .answer) n p ↔ ListTurned planned b n p
     pub plan-refused : (k : ℕ) (b : List ℕ) (n p : ℕ) → Refuses (deskPlan here k b .answer) n p ↔ PlanTurned planned k b n p
@@ -92,4 +87,4 @@ module _ (day : Day) (opened : List ℕ) (calls : List Call) where
 abbrev pub OpenDesk : Type 0
 OpenDesk = (book ws : List ℕ) (day : Day) → Accepts Ordering book day → deskWords ≤ length ws →
     (deskOpen book ws .answer ≡ saidOpened (length (day .rows)) (day .free)) ×
-    ((calls : List Call) → Kept day (deskOpen book ws .buffer) calls)
+    ((calls : List Call) → AfterCalls day (deskOpen book ws .buffer) calls)

@@ -42,15 +42,15 @@ abbrev pub InTable : Profile → ℕ → Type 0
 InTable Ordering n = (1 ≤ n) × (n ≤ 12)
 InTable FirstCome n = (1 ≤ n) × (n ≤ 13) × ¬ (n ≡ 8)
 
-pub record Lent (profile : Profile) (b : List ℕ) (o : Outcome Said) : Type 0 where
-  pub number : 1 ≤ o .answer .number → InTable profile (o .answer .number)
+pub record Lent (Numbers : ℕ → Type 0) (b : List ℕ) (o : Outcome Said) : Type 0 where
+  pub number : 1 ≤ o .answer .number → Numbers (o .answer .number)
   pub buffer : 1 ≤ o .answer .number → o .buffer ≡ b
   pub same-length : length (o .buffer) ≡ length b
 
 pub record Property1 (terms : Terms) : Type 0 where
-  pub of-list : (book b : List ℕ) → Lent (terms .profile) b (list terms book b)
-  pub of-bound : (book : List ℕ) (y : ℤ) (b : List ℕ) → Lent (terms .profile) b (bound terms book y b)
-  pub of-plan : (book : List ℕ) (k : ℕ) (b : List ℕ) → Lent (terms .profile) b (plan terms book k b)
+  pub of-list : (book b : List ℕ) → Lent (InTable (terms .profile)) b (list terms book b)
+  pub of-bound : (book : List ℕ) (y : ℤ) (b : List ℕ) → Lent (InTable (terms .profile)) b (bound terms book y b)
+  pub of-plan : (book : List ℕ) (k : ℕ) (b : List ℕ) → Lent (InTable (terms .profile)) b (plan terms book k b)
   pub of-verdict : (book posting : List ℕ) → 1 ≤ verdict terms book posting .number →
       InTable (terms .profile) (verdict terms book posting .number)
   -- A refused call for a row's words gives an empty part.

@@ -71,7 +71,7 @@ fn column_left(
     n: usize,
     column: &mut [u32; Desk::PLACES],
 )
-    requires { ⌜ (n ≤ mostRows) × (before + mostRows ≤ 1287) × (deskWords ≤ length (now desk))
+    requires { ⌜ (n ≤ mostRows) × (before + mostRows < deskWords) × (deskWords ≤ length (now desk))
         × ((k : ℕ) → at (now rows) k ≤ mostRows) × (now column ≡ replicate rowPlaces 0) ⌝ }
     ensures { λ _. ⌜ Filled rowPlaces (from 1) (wordLeft (now (desk .entry)) before (now (rows .entry))) n (now (column .exit)) ⌝ }
 {

@@ -1,6 +1,6 @@
 // The words of a lent desk: where each number stands, and whether a run of words holds a desk.
 ghost use mathlib.Core.Path.{_≡_};
-ghost use Prim.Native.Nat.{_+_, _≤_};
+ghost use Prim.Native.Nat.{_+_, _≤_, _<_};
 ghost use lib.ListN.{length};
 ghost use Rattle.schedule.specs.Limits.{mostRows};
 ghost use Rattle.running.specs.Running.{between};
@@ -40,6 +40,9 @@ impl Layout {
 
     const MOST_RAISED: u32 = 2_167_513_648;
 
+    // The most rows of a desk.
+    const MOST_ROWS: u32 = 256;
+
     // The longest length of a row.
     pub const LONGEST: u32 = 30_000;
 }
@@ -53,7 +56,7 @@ fn is_between(least: u32, most: u32, x: u32) -> bool
 
 // The first n words of a column are between two numbers.
 fn column_fits(desk: &[u32], before: usize, least: u32, most: u32, n: usize) -> bool
-    requires { ⌜ (n ≤ mostRows) × (before + mostRows ≤ 1287) × (deskWords ≤ length (now desk)) ⌝ }
+    requires { ⌜ (n ≤ mostRows) × (before + mostRows < deskWords) × (deskWords ≤ length (now desk)) ⌝ }
     ensures { λ r. ⌜ r ≡ columnFits before least most (now (desk .entry)) n ⌝ }
 {
     let mut i: usize = 0;
@@ -83,7 +86,7 @@ fn head_fits(desk: &[u32]) -> bool
     ensures { λ r. ⌜ r ≡ headFits (now (desk .entry)) ⌝ }
 {
     let worst = desk[Layout::WORST];
-    is_between(1, 256, desk[Layout::COUNT])
+    is_between(1, Layout::MOST_ROWS, desk[Layout::COUNT])
         & ((desk[Layout::MINUTE] <= Layout::LATEST_STAND)
             & ((worst == 0) | is_between(Layout::LEAST_RAISED, Layout::MOST_RAISED, worst)))
 }

@@ -1,9 +1,10 @@
 -- `open` meets its contract: the refusal of the book, then a run that is too short, then the words of the desk.
 -- Assumes nothing.
+use mathlib.Core.Path.{sym}
 use borrow.Author.Needs.{needs}
 use denote.Ref.{now}
 use Rattle.readers.proofs.Readings.{given-refused}
-use Rattle.desk_open.proofs.OpenCall.{open-refused, given-sizes, open-narrow, open-done}
+use Rattle.desk_open.proofs.OpenCall.{open-no, given-sizes, open-narrow, open-done}
 use Rattle.desk_open.proofs.open.Statement.{statement}
 use Rattle.desk_open.proofs.open.Tie as tie
 
@@ -18,8 +19,8 @@ returns c =
     let r = c .before .before .before .read in
     let a = c .before .before .before .before .before .before .args in
     let g = c .before .outcome .given in
-    open-refused (now (a .book)) (a .desk .now) (g .0 .0) (g .0 .1 .0)
-    (given-refused _ (r .result) (g .0 .0) (g .0 .1 .0) (r .ensures) (g .1))
+    sym (open-no (now (a .book)) (a .desk .now) (g .0 .0) (g .0 .1 .0)
+    (given-refused _ (r .result) (g .0 .0) (g .0 .1 .0) (r .ensures) (g .1)))
 
 enum-told : tie.Need-enum-told
 enum-told c = search needs

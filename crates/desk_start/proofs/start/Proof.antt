@@ -16,7 +16,7 @@ use Rattle.running.specs.Words.{lengths, running, isDesk, movedWords}
 use Rattle.running.proofs.Fits.{desk-says}
 use Rattle.running.proofs.Moves.{StartFits, start-fits}
 use Rattle.desk_start.specs.declared.StartAnswer.the-variants as start-answer
-use Rattle.desk_start.proofs.StartLaws.{call-none, call-refused, call-moved}
+use Rattle.desk_start.proofs.StartLaws.{start-none, start-no, start-moved}
 use Rattle.desk_start.proofs.start.Statement.{statement}
 use Rattle.desk_start.proofs.start.Tie as tie
 
@@ -41,7 +41,7 @@ same-length : tie.Need-same-length
 same-length c = search needs
 
 returns : tie.Need-returns
-returns c = call-none _ _ _ (sym (c .before .is-desk .ensures) ∙ not-true _ (c .if1 .taken))
+returns c = sym (start-none _ _ _ (sym (c .before .is-desk .ensures) ∙ not-true _ (c .if1 .taken)))
 
 start-tests-requires : tie.Need-start-tests-requires
 start-tests-requires c κs = held (c .before)
@@ -55,7 +55,7 @@ same-length-2 c = search needs
 returns-2 : tie.Need-returns-2
 returns-2 c =
     let b = c .before .before .before in
-    call-refused _ _ _ (held (b .before .before)) _ _ (sym (b .start-tests .ensures) ∙ c .before .test .given .1)
+    sym (start-no _ _ _ (held (b .before .before)) _ _ (sym (b .start-tests .ensures) ∙ c .before .test .given .1))
 
 enum-told : tie.Need-enum-told
 enum-told c = search needs
@@ -112,7 +112,7 @@ returns-3 c =
     let z = lowered-word (l .result) (c .lower .result) w (c .lower .ensures) ∙ ap lowered (l .ensures) in
     let v = c .before .before .before .store .ensures ∙ ap (movedWords (s .desk .now) (s .row) end) (l .ensures) in
     (λ x. gives (start-answer.Moved end (z x)) (v x)) ∙
-    call-moved (s .desk .now) (s .row) (s .minute) (held (e .before .before .before .before)) (passed e)
+    start-moved (s .desk .now) (s .row) (s .minute) (held (e .before .before .before .before)) (passed e)
 
 pub start-spec : {M : Type 1} → statement M
 start-spec =
