@@ -128,12 +128,12 @@ pub fn of_start(answer: StartAnswer) -> Answer
     ensures { λ r. ⌜ r ≡ answerOf (saidStart answer) ⌝ }
 {
     match answer {
-        StartAnswer::Moved(minute, late) => Answer {
+        StartAnswer::Moved(minute, worst) => Answer {
             place: 0,
             count: 0,
             refusal: 0,
             end: 0,
-            late: late,
+            late: worst,
             minute: minute,
         },
         StartAnswer::Refused(number, place) => refused(number, place),

@@ -2,3 +2,4 @@ pub mod Answers
 pub mod History
 pub mod Table
 pub mod Promise
+pub mod Worked
