@@ -61,10 +61,13 @@ module _ (book ws : List ℕ) where
         wide h _ _ (narrow l) = omega arith
 
         step : Dec (deskWords ≤ length ws) → (n p : ℕ) → Refuses (deskOpen book ws .answer) n p ↔ OpenTurned ws n p
-        step (yes h) = says-yes (deskOpen book ws .answer) (OpenTurned ws) (ap (λ o. saidOpen (o .answer) .number) (open-yes book ws day e h)) (wide h)
+        step (yes h) =
+            says-yes (deskOpen book ws .answer) (OpenTurned ws)
+            (ap (λ o. saidOpen (o .answer) .number) (open-yes book ws day e h)) (wide h)
         step (no h) =
             let short : length ws < deskWords = omega arith in
-            says-no (deskOpen book ws .answer) (OpenTurned ws) byNarrow 0 (omega arith) (ap (λ o. saidOpen (o .answer)) (open-short book ws day e short))
+            says-no (deskOpen book ws .answer) (OpenTurned ws) byNarrow 0 (omega arith)
+            (ap (λ o. saidOpen (o .answer)) (open-short book ws day e short))
             (narrow short) only
 
   pub open-turned : (n p : ℕ) → Refuses (deskOpen book ws .answer) n p ↔ Turned Ordering book (λ day. OpenTurned ws) n p
