@@ -4,23 +4,25 @@ use Prim.Native.Nat.{ℕ, _+_, _-_, _*_, _≤_, _<_}
 use native.Mathlib.Omega.{arith}
 use mathlib.Core.Bool.{Bool, true, false, cond}
 use mathlib.Core.Path.{_≡_, refl, sym, ap, _∙_, subst}
-use mathlib.Core.List.{List, [], _∷_, map, List·Memᴰ, List·Memᴰ·head, List·Memᴰ·tail}
+use mathlib.Core.List.{List, [], _∷_, _++_, map, List·Memᴰ, List·Memᴰ·head, List·Memᴰ·tail}
 use mathlib.Core.Logic.{_↔_, _⊎_, inl, inr}
 use lib.ListN.{length}
 use lib.IntN.{pos}
 use lib.Signed.{_≤ℤ_}
-use Rattle.schedule.specs.Limits.{mostRows, longestLength, latestDue, latestDeskEnd, leastLateness}
+use Rattle.schedule.specs.Limits.{mostRows, longestLength, latestDue, latestStart, latestDeskEnd, leastLateness}
 use Rattle.schedule.specs.declared.Profile.the-variants.{Ordering}
 use Rattle.schedule.specs.Cover.{Agreeing}
-use Rattle.schedule.specs.Desk.{Pair}
+use Rattle.schedule.specs.Desk.{Pair, worstOf}
+use Rattle.schedule.specs.Plans.{plans}
 use Rattle.schedule.specs.Rows.{Day, rowNumbers, stands}
 use Rattle.schedule.proofs.Ranges.{in-range}
+use Rattle.refusals.specs.declared.Tested.the-variants.{Passed}
 use Rattle.book.specs.Rows.{accepted}
 use Rattle.readers.specs.Accepted.{AcceptedDay}
 use Rattle.readers.proofs.Accepted.{accepted-day}
 use Rattle.results.specs.Results.{written, planWords}
 use Rattle.results.proofs.ResultWords.{plan-length}
-use Rattle.outcomes.specs.Planning.{Planning}
+use Rattle.outcomes.specs.Planning.{gives, Planning}
 use Rattle.outcomes.specs.Outcomes.{listOutcome, planOutcome}
 use Rattle.outcomes.proofs.OutcomeLaws.{list-is, plan-unlisted}
 use Rattle.calls.specs.Answers.{saidList, saidOrder}
@@ -29,11 +31,12 @@ use Rattle.promises.specs.Table.{ListTurned, PlanTurned}
 use Rattle.promises.specs.Table as table
 use Rattle.promises.specs.Promise.{Covered, PlanOrders}
 use Rattle.promises.proofs.Accepted.{accepts}
-use Rattle.promises.proofs.Kept.{covered, plan-orders}
+use Rattle.promises.proofs.Kept.{list-front, covered, plan-orders}
 use Rattle.promises.proofs.Memory as memory
-use Rattle.running.specs.Running.{Running, jobIn, endAt, worstAt}
+use Rattle.running.specs.Running.{Running, jobIn, startTests, endAt, worstAt}
 use Rattle.running.specs.Words.{running, isDesk}
 use Rattle.running.proofs.Fits.{desk-says}
+use Rattle.running.proofs.Starts.{may-start}
 use Rattle.rows_left.specs.Left.{plansHere}
 use Rattle.desk_open.specs.Opens.{openedWords, deskTerms}
 use Rattle.desk_open.proofs.Opened.{opened-held}
@@ -41,10 +44,11 @@ use Rattle.desk_open.proofs.OpenCall.{open-yes}
 use Rattle.desk_start.proofs.StartLaws.{start-no, start-yes}
 use Rattle.desk_plans.specs.Plans.{planningLeft}
 use Rattle.open_desk.specs.Answers.{saidOpen, saidStart, saidMoved}
-use Rattle.open_desk.specs.History.{deskOpen, deskStart, deskList, deskPlan, Call, after, Start, acceptedStarts, notTaken, standing}
+use Rattle.open_desk.specs.History.{deskOpen, deskStart, deskList, deskPlan, Call, after, Start, acceptedStarts, notTaken}
+use Rattle.open_desk.specs.History.{endOfStart, latenessOfStart, standing}
 use Rattle.open_desk.specs.Table.{StartTurned, CanPlan, DeskTurned, no-desk, by-call}
 use Rattle.open_desk.specs.Promise.{DeskProperty1, DeskProperty2, AfterCalls, OpenDesk}
-use Rattle.open_desk.proofs.Standing.{job-held}
+use Rattle.open_desk.proofs.Standing.{job-held, worst-told, end-told}
 use Rattle.open_desk.proofs.Starts.{Found, refuses, passes, found}
 use Rattle.open_desk.proofs.Histories.{alone, State, first, leaves}
 use Rattle.open_desk.proofs.Refused as refused
@@ -186,18 +190,37 @@ module _ (day : Day) (a : AcceptedDay Ordering day) (first-words : List ℕ) (ca
   held : (P : Running → Type 0) → P (running words) → P now-held
   held P h = subst P (s .held) h
 
-  start-moves : (i m : ℕ) → deskStart words i m .answer .number ≡ 0 →
-      deskStart words i m .answer ≡ saidMoved (endAt now-held i m) (worstAt now-held i m)
-  start-moves i m accepted-it = step (found (running words) i m)
+  -- A start that is not refused has passed its tests.
+  has-passed : (i m : ℕ) → deskStart words i m .answer .number ≡ 0 → startTests (running words) i m ≡ Passed
+  has-passed i m accepted-it = step (found (running words) i m)
     where
-      step : Found (running words) i m → deskStart words i m .answer ≡ saidMoved (endAt now-held i m) (worstAt now-held i m)
+      step : Found (running words) i m → startTests (running words) i m ≡ Passed
       step (refuses n p l t u only) =
           let no = ap (λ o. saidStart (o .answer) .number) (start-no words i m desk n p t) in
           let z : ⊥ = omega (arith, accepted-it, no, l) in
           absurd z
-      step (passes t never) =
-          ap (λ o. saidStart (o .answer)) (start-yes words i m desk t) ∙
-          ap (λ (d : Running). saidMoved (endAt d i m) (worstAt d i m)) (s .held)
+      step (passes t never) = t
+
+  start-moves : (i m : ℕ) → deskStart words i m .answer .number ≡ 0 →
+      let s : Start = record { row = i; minute = m } in
+      deskStart words i m .answer ≡ saidMoved (endOfStart day s) (worstOf (map (latenessOfStart day) (done ++ (s ∷ []))))
+  start-moves i m accepted-it =
+      ap (λ o. saidStart (o .answer)) (start-yes words i m desk (has-passed i m accepted-it)) ∙
+      (ap (λ (d : Running). saidMoved (endAt d i m) (worstAt d i m)) (s .held) ∙
+      (λ x. saidMoved (end-told day done i m x) (worst-told day done i m x)))
+
+  none-past : latestStart < now-held .minute → (i m : ℕ) → ¬ (deskStart words i m .answer .number ≡ 0)
+  none-past late i m accepted-it =
+      let may = may-start (running words) i m (has-passed i m accepted-it) in
+      omega (arith, late, may .after, may .early, ap (λ (d : Running). d .minute) (s .held))
+
+  list-given : 0 < length (running words .left) → (b : List ℕ) → 2 * length (running words .left) ≤ length b →
+      let g = planningLeft (running words) in
+      let front = plans (g .job) (g .minute) (g .left) in
+      deskList words b ≡ gives (saidCount (length front)) (written (planWords front) b)
+  list-given some b wide =
+      let g = planningLeft (running words) in
+      ap (told saidList) (refused.list-here words (refused.here-is words can) b) ∙ list-front g (refused.sound words can some) b wide
 
   list-covers : 0 < length (running words .left) → (b : List ℕ) → 2 * length (running words .left) ≤ length b →
       Covered (planningLeft (running words)) (listed (deskList words b)) ×
@@ -224,7 +247,12 @@ module _ (day : Day) (a : AcceptedDay Ordering day) (first-words : List ℕ) (ca
     holds = s .held;
     start-refused = λ i m n p.
         held (λ d. Refuses (deskStart words i m .answer) n p ↔ StartTurned d i m n p) (refused.start-own words i m desk n p);
-    start-moves = start-moves;
+    start-moves = λ s. start-moves (s .row) (s .minute);
+    none-past = none-past;
+    lists = held (λ d. 0 < length (d .left) → (b : List ℕ) → 2 * length (d .left) ≤ length b →
+        let g = planningLeft d in
+        let front = plans (g .job) (g .minute) (g .left) in
+        deskList words b ≡ gives (saidCount (length front)) (written (planWords front) b)) list-given;
     list-refused = λ b n p.
         held (λ d. Refuses (deskList words b .answer) n p ↔ ListTurned (planningLeft d) b n p)
         (refused.list-own words can b n p);

@@ -5,7 +5,7 @@ use native.Mathlib.Omega.{arith}
 use mathlib.Core.Bool.{Bool, true, false, _||_, or-false}
 use mathlib.Core.Path.{_≡_, refl, sym, ap, _∙_}
 use mathlib.Core.List.{List, [], _∷_, _++_, map, map-append}
-use mathlib.Core.Option.{Option, none, some}
+use mathlib.Core.Option.{Option, some, Option·some-injective}
 use lib.Dec.{eqb}
 use lib.ListN.{length, List·getD-map}
 use lib.IntN.{ℤ}
@@ -16,7 +16,7 @@ use Rattle.schedule.specs.Desk.{maxZ, worstOf}
 use Rattle.schedule.proofs.Tests.{false-is-true, true-is, is-true, true-is, is-false}
 use Rattle.schedule.proofs.Signed.{leZ-trans, leZ-total}
 use Rattle.schedule.proofs.Stands.{stands-behind}
-use Rattle.running.specs.Running.{opened, jobIn, worse, moved}
+use Rattle.running.specs.Running.{opened, jobIn, worse, endAt, worstAt, moved}
 use Rattle.open_desk.specs.History.{Start, endOfStart, latenessOfStart, minuteAfter, notTaken, worstSoFar, standing}
 
 -- What planning sees of a row is the same on the desk as of the day.
@@ -63,6 +63,22 @@ module _ (day : Day) where
       ap {B = Option ℤ} some
       (ap worstOf (map-append (latenessOfStart day) (r ∷ rs) (s ∷ [])) ∙
       worst-more (latenessOfStart day r) (map (latenessOfStart day) rs) (latenessOfStart day s))
+
+  -- With a start there is a worst lateness.
+  worst-some : (done : List Start) (s : Start) →
+      worstSoFar day (done ++ (s ∷ [])) ≡ some (worstOf (map (latenessOfStart day) (done ++ (s ∷ []))))
+  unfolding worstSoFar
+  worst-some [] s = refl
+  worst-some (r ∷ rs) s = refl
+
+  pub worst-told : (done : List Start) (i m : ℕ) →
+      worstAt (standing day done) i m ≡ worstOf (map (latenessOfStart day) (done ++ (record { row = i; minute = m } ∷ [])))
+  worst-told done i m =
+      let s : Start = record { row = i; minute = m } in
+      rw (job-held day i) (Option·some-injective _ _ (sym (worst-on done s) ∙ worst-some done s))
+
+  pub end-told : (done : List Start) (i m : ℕ) → endAt (standing day done) i m ≡ endOfStart day (record { row = i; minute = m })
+  end-told done i m = rw (job-held day i)
 
   minute-on : (t : ℕ) (done : List Start) (s : Start) → minuteAfter day t (done ++ (s ∷ [])) ≡ endOfStart day s
   unfolding minuteAfter

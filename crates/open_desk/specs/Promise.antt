@@ -3,23 +3,26 @@
 -- of its call is its contract (src/lib.rt). Rests on: History, Table, the promises of a book's calls.
 use Prim.Native.Nat.{ℕ, _+_, _*_, _≤_, _<_}
 use mathlib.Core.Path.{_≡_}
-use mathlib.Core.List.{List, [], map}
+use mathlib.Core.List.{List, [], _∷_, _++_, map}
 use mathlib.Core.Logic.{_↔_, _⊎_}
 use lib.ListN.{length, drop, getD}
 use lib.IntN.{pos}
 use lib.Signed.{_≤ℤ_}
-use Rattle.schedule.specs.Limits.{latestDeskEnd, leastLateness, longestLength}
+use Rattle.schedule.specs.Limits.{latestStart, latestDeskEnd, leastLateness, longestLength}
 use Rattle.schedule.specs.declared.Profile.the-variants.{Ordering}
 use Rattle.schedule.specs.Rows.{Day}
-use Rattle.outcomes.specs.Planning.{Planning}
+use Rattle.schedule.specs.Desk.{worstOf}
+use Rattle.schedule.specs.Plans.{plans}
+use Rattle.results.specs.Results.{written, planWords}
+use Rattle.outcomes.specs.Planning.{gives, Planning}
 use Rattle.promises.specs.Vocabulary.{Refuses, saidCount, listed, ReaderOrder, endBy, lateBy, Accepts}
 use Rattle.promises.specs.Table.{Turned, ListTurned, PlanTurned}
 use Rattle.promises.specs.Promise.{Lent, Covered, PlanOrders}
-use Rattle.running.specs.Running.{endAt, worstAt}
 use Rattle.running.specs.Words.{deskWords, running, marks, IsDesk}
 use Rattle.desk_plans.specs.Plans.{planningLeft}
 use Rattle.open_desk.specs.Answers.{saidOpened, saidMoved}
-use Rattle.open_desk.specs.History.{deskOpen, deskStart, deskList, deskPlan, Call, after, Start, acceptedStarts, asCall, standing}
+use Rattle.open_desk.specs.History.{deskOpen, deskStart, deskList, deskPlan, Call, after, Start, acceptedStarts, asCall, endOfStart}
+use Rattle.open_desk.specs.History.{latenessOfStart, standing}
 use Rattle.open_desk.specs.Table.{OpenTurned, StartTurned, CanPlan, DeskTurned}
 
 -- # 1. The lent memory, of any words whatever
@@ -65,14 +68,20 @@ module _ (day : Day) (opened : List ℕ) (calls : List Call) where
     -- .. and they give this: the rows that none of them took are left; the desk stands at the end of the last; the worst lateness so far
     -- is the largest of theirs.
     pub holds : running here ≡ standing day started
-    -- The next start is refused exactly so. Otherwise it answers the desk's new minute and the worst lateness so far, as that start and
-    -- those before it give them.
+    -- The next start is refused exactly so. Otherwise it answers the desk's new minute, its end, and the worst lateness so far, the largest
+    -- of its own and of those before it. Where the desk's minute is past 20,000,000, none is accepted.
     pub start-refused : (i m n p : ℕ) → Refuses (deskStart here i m .answer) n p ↔ StartTurned (standing day started) i m n p
-    pub start-moves : (i m : ℕ) → deskStart here i m .answer .number ≡ 0 →
-        deskStart here i m .answer ≡ saidMoved (endAt (standing day started) i m) (worstAt (standing day started) i m)
+    pub start-moves : (s : Start) → deskStart here (s .row) (s .minute) .answer .number ≡ 0 →
+        deskStart here (s .row) (s .minute) .answer ≡
+        saidMoved (endOfStart day s) (worstOf (map (latenessOfStart day) (started ++ (s ∷ []))))
+    pub none-past : latestStart < planned .minute → (i m : ℕ) → ¬ (deskStart here i m .answer .number ≡ 0)
     -- The list and an order are refused for a short buffer, and an order for a plan's number that is not on the list; for nothing else.
     pub list-refused : (b : List ℕ) (n p : ℕ) → Refuses (deskList here b .answer) n p ↔ ListTurned planned b n p
     pub plan-refused : (k : ℕ) (b : List ℕ) (n p : ℕ) → Refuses (deskPlan here k b .answer) n p ↔ PlanTurned planned k b n p
+    -- As long as a row is left, the list is the one by its definition: the pairs that some order of the rows left attains and none beats.
+    pub lists : 0 < length (planned .left) → (b : List ℕ) → 2 * length (planned .left) ≤ length b →
+        let front = plans (planned .job) (planned .minute) (planned .left) in
+        deskList here b ≡ gives (saidCount (length front)) (written (planWords front) b)
     -- As long as a row is left, all that property 3 says of a book's list holds of this one: it covers each way of finishing the rest.
     pub covered : 0 < length (planned .left) → (b : List ℕ) → 2 * length (planned .left) ≤ length b →
         Covered planned (listed (deskList here b)) × PlanOrders planned (listed (deskList here b)) (deskPlan here)
