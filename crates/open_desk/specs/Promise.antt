@@ -39,7 +39,7 @@ pub record DeskProperty1 : Type 0 where
       getD (deskStart ws i m .buffer) place 0 ≡ getD ws place 0
 
 -- # 2. The definitions, of any words whatever
--- A call is refused n at p exactly if the condition holds and no earlier one does; a start that is not refused moves the desk.
+-- A call is refused n at p exactly if the condition holds and no earlier one does.
 pub record DeskProperty2 : Type 0 where
   pub open-refused : (book ws : List ℕ) (n p : ℕ) → Refuses (deskOpen book ws .answer) n p ↔ Turned Ordering book (λ day. OpenTurned ws) n p
   pub start-refused : (ws : List ℕ) (i m n p : ℕ) → Refuses (deskStart ws i m .answer) n p ↔
