@@ -1,24 +1,26 @@
 -- The tests of a start by the desk's words, and the outcome by what they have found.
 -- Assumes nothing.
 use Prim.Native.Nat.{ℕ, _+_, _-_, _≤_, max}
+use native.Mathlib.Omega.{arith}
 use mathlib.Core.Bool.{true, false, not, _||_}
 use mathlib.Core.Path.{_≡_, sym, _∙_}
 use mathlib.Core.List.{List}
 use lib.Dec.{eqb, ltb}
 use borrow.Author.Tests.{not-false}
+use Rattle.theory.specs.Jobs.{finish}
 use Rattle.schedule.specs.Limits.{latestStart}
 use Rattle.schedule.specs.Columns.{at}
-use Rattle.schedule.specs.Offset.{raised, lowered}
+use Rattle.schedule.specs.Offset.{raised, lowered, deskAfter}
 use Rattle.schedule.proofs.Tests.{is-true}
 use Rattle.refusals.specs.declared.Tested.the-variants.{Passed, Refused}
 use Rattle.refusals.specs.Refusals.{byRange, byUnlisted, byDone, byEarly}
 use Rattle.refusals.specs.Tests.{refuseIf, _then_}
 use Rattle.outcomes.specs.Planning.{gives}
 use Rattle.running.specs.Running.{between, startTests, endAt, worstAt}
-use Rattle.running.specs.Words.{countIn, minuteIn, worstIn, releases, lengths, dues, marks, running, isDesk, IsDesk, movedWords}
+use Rattle.running.specs.Words.{countIn, minuteIn, worstIn, releases, lengths, dues, marks, running, isDesk, IsDesk, movedWords, jobAt}
 use Rattle.running.proofs.Fits.{lies, desk-says, row-held, rows-length}
 use Rattle.running.proofs.Left.{left-stands}
-use Rattle.running.proofs.Moves.{end-held, worst-held, worst-raised}
+use Rattle.running.proofs.Moves.{StartFits, end-held, worst-held, worst-raised}
 use Rattle.desk_start.specs.declared.StartAnswer.the-variants as start-answer
 use Rattle.desk_start.specs.Starts.{startOutcome, startCall}
 
@@ -61,6 +63,12 @@ module _ (ws : List ℕ) (i m : ℕ) where
 
     abbrev worst : ℕ
     worst = max (worstIn ws) (end + 2147483648 - at ws (dues + i))
+
+    -- A desk at the start's minute, which is not before the release, after the row.
+    pub taken : StartFits ws i m →
+        deskAfter (record { minute = m; worst = worstIn ws }) (jobAt ws i) ≡ record { minute = end; worst = worst }
+    unfolding finish
+    taken f = let ready : max m (at ws (releases + i)) ≡ m = omega (arith, f) in rw ready
 
     pub start-moved : startTests (running ws) i m ≡ Passed →
         gives (start-answer.Moved end (lowered worst)) (movedWords ws i end worst) ≡ startCall ws i m

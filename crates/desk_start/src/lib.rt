@@ -10,6 +10,7 @@ ghost use Rattle.outcomes.specs.Planning.{gives};
 ghost use Rattle.desk_start.specs.Starts.{startCall};
 use refusals::Tested;
 use running::Layout;
+use schedule::Desk;
 
 // The answer to a start: the desk's new minute and the worst lateness so far.
 pub enum StartAnswer {
@@ -55,9 +56,15 @@ pub fn start(desk: &mut [u32], row: u32, minute: u32) -> StartAnswer
         return StartAnswer::Refused(number, place);
     }
     let i = row as usize;
-    let end = minute + desk[Layout::LENGTHS + i];
-    let late = end + 2_147_483_648 - desk[Layout::DUES + i];
-    let worst = schedule::later(desk[Layout::WORST], late);
-    store(desk, i, end, worst);
-    StartAnswer::Moved(end, schedule::lower(worst))
+    let free = Desk {
+        minute: minute,
+        worst: desk[Layout::WORST],
+    };
+    let done = free.take(
+        desk[Layout::RELEASES + i],
+        desk[Layout::LENGTHS + i],
+        desk[Layout::DUES + i],
+    );
+    store(desk, i, done.minute, done.worst);
+    StartAnswer::Moved(done.minute, schedule::lower(done.worst))
 }

@@ -42,7 +42,7 @@ held-some (suc w) h = refl
 abbrev pub StartFits : List ℕ → ℕ → ℕ → Type 0
 StartFits ws i m =
     (deskWords ≤ length ws) × (i ≤ mostRows) × (m ≤ latestStart) × (1 ≤ at ws (lengths + i)) × (at ws (lengths + i) ≤ longestLength) ×
-    (at ws (dues + i) ≤ latestDue)
+    (at ws (dues + i) ≤ latestDue) × (at ws (releases + i) ≤ m)
 
 module _ (ws : List ℕ) (desk : IsDesk ws) (i m : ℕ) (passed : startTests (running ws) i m ≡ Passed) where
   abbrev d : Running
@@ -73,7 +73,8 @@ module _ (ws : List ℕ) (desk : IsDesk ws) (i m : ℕ) (passed : startTests (ru
   pub start-fits : StartFits ws i m
   start-fits =
       let r = desk .rows i low high in
-      (desk .long, omega (arith, high, desk .count), may .early, r .1, r .2, r .3)
+      let released = ap (λ (j : Job). j .release) job-held in
+      (desk .long, omega (arith, high, desk .count), may .early, r .1, r .2, r .3, omega (arith, released, may .released))
 
   -- The end and the worst lateness, in words.
   pub end-held : m + minutes ≡ endAt d i m

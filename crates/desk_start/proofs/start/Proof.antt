@@ -2,21 +2,21 @@
 -- Assumes nothing.
 use borrow.Author.Needs.{needs}
 use native.Mathlib.Omega.{arith}
-use Prim.Native.Nat.{_+_, _<_}
+use Prim.Native.Nat.{_<_}
 use mathlib.Core.Bool.{true}
 use mathlib.Core.Path.{_≡_, sym, ap, _∙_}
 use borrow.Author.Tests.{not-true, not-false}
-use Rattle.schedule.specs.Columns.{at}
+use Rattle.schedule.specs.declared.Desk.{Desk}
 use Rattle.schedule.specs.Offset.{lowered}
 use Rattle.schedule.proofs.SignedWords.{lowered-word}
 use Rattle.refusals.specs.declared.Tested.the-variants.{Passed}
 use Rattle.outcomes.specs.Planning.{gives}
 use Rattle.running.specs.Running.{startTests}
-use Rattle.running.specs.Words.{lengths, running, isDesk, movedWords}
+use Rattle.running.specs.Words.{running, isDesk, movedWords}
 use Rattle.running.proofs.Fits.{desk-says}
 use Rattle.running.proofs.Moves.{StartFits, start-fits}
 use Rattle.desk_start.specs.declared.StartAnswer.the-variants as start-answer
-use Rattle.desk_start.proofs.StartLaws.{start-none, start-no, start-moved}
+use Rattle.desk_start.proofs.StartLaws.{start-none, start-no, taken, start-moved}
 use Rattle.desk_start.proofs.start.Statement.{statement}
 use Rattle.desk_start.proofs.start.Tie as tie
 
@@ -60,41 +60,43 @@ returns-2 c =
 enum-told : tie.Need-enum-told
 enum-told c = search needs
 
-add-end : tie.Need-add-end
-add-end c = search needs
+slice-read-take : tie.Need-slice-read-take
+slice-read-take c = omega (arith, fits (c .before))
 
-mul-end : tie.Need-mul-end
-mul-end c = search needs
+add-take : tie.Need-add-take
+add-take c = search needs
 
-slice-read-end : tie.Need-slice-read-end
-slice-read-end c = omega (arith, fits (c .before))
+mul-take : tie.Need-mul-take
+mul-take c = search needs
 
-add-end-2 : tie.Need-add-end-2
-add-end-2 c = record { fits = omega (arith, fits (c .before)) }
+slice-read-take-2 : tie.Need-slice-read-take-2
+slice-read-take-2 c = omega (arith, fits (c .before .before))
 
-add-late : tie.Need-add-late
-add-late c = record { fits = omega (arith, fits (c .before)) }
+add-take-2 : tie.Need-add-take-2
+add-take-2 c = search needs
 
-add-late-2 : tie.Need-add-late-2
-add-late-2 c = search needs
+mul-take-2 : tie.Need-mul-take-2
+mul-take-2 c = search needs
 
-mul-late : tie.Need-mul-late
-mul-late c = search needs
+slice-read-take-3 : tie.Need-slice-read-take-3
+slice-read-take-3 c = omega (arith, fits (c .before .before .before))
 
-slice-read-late : tie.Need-slice-read-late
-slice-read-late c = omega (arith, fits (c .before .before))
+add-take-3 : tie.Need-add-take-3
+add-take-3 c = search needs
 
-sub-late : tie.Need-sub-late
-sub-late c = omega (arith, fits (c .before .before))
+mul-take-3 : tie.Need-mul-take-3
+mul-take-3 c = search needs
 
-slice-read-later : tie.Need-slice-read-later
-slice-read-later c = omega (arith, fits (c .before .before .before))
+slice-read-take-4 : tie.Need-slice-read-take-4
+slice-read-take-4 c = omega (arith, fits (c .before .before .before .before))
 
-later-requires : tie.Need-later-requires
-later-requires c κs = search needs
+take-requires : tie.Need-take-requires
+take-requires c κs =
+    let f = fits (c .before .before .before .before) in
+    (omega (arith, f), omega (arith, f), omega (arith, f), omega (arith, f))
 
 store-requires : tie.Need-store-requires
-store-requires c κs = let f = fits (c .before .before .before .before .before) in (f .1, f .0)
+store-requires c κs = let f = fits (c .before .before .before .before .before .before) in (f .1, f .0)
 
 lower-requires : tie.Need-lower-requires
 lower-requires c κs = search needs
@@ -104,14 +106,16 @@ same-length-3 c = search needs
 
 returns-3 : tie.Need-returns-3
 returns-3 c =
-    let e = c .before .before .before .before .before .before .before .before .before in
+    let t = c .before .before .before .before .before .take in
+    let e = c .before .before .before .before .before .before .before .before .before .before in
     let s = entry e .args in
-    let l = c .before .before .before .before .before .later in
-    let w : l .result < 4294967296 = omega (arith, l .ensures, c .before .before .before .before .before .before .slice-known4 .given 2) in
-    let end = s .minute + at (s .desk .now) (lengths + s .row) in
-    let z = lowered-word (l .result) (c .lower .result) w (c .lower .ensures) ∙ ap lowered (l .ensures) in
-    let v = c .before .before .before .store .ensures ∙ ap (movedWords (s .desk .now) (s .row) end) (l .ensures) in
-    (λ x. gives (start-answer.Moved end (z x)) (v x)) ∙
+    let after = t .ensures ∙ taken (s .desk .now) (s .row) (s .minute) (held (e .before .before .before .before)) (fits e) in
+    let word = c .before .before .before .before .before .before .before .before .before .slice-known2 .given 2 in
+    let w : t .result .worst < 4294967296 = omega (arith, ap (λ (d : Desk). d .worst) after, fits e, word) in
+    let z = lowered-word (t .result .worst) (c .lower .result) w (c .lower .ensures) ∙ ap (λ (d : Desk). lowered (d .worst)) after in
+    let v = c .before .before .before .store .ensures ∙
+    ap (λ (d : Desk). movedWords (s .desk .now) (s .row) (d .minute) (d .worst)) after in
+    (λ x. gives (start-answer.Moved (after x .minute) (z x)) (v x)) ∙
     start-moved (s .desk .now) (s .row) (s .minute) (held (e .before .before .before .before)) (passed e)
 
 pub start-spec : {M : Type 1} → statement M
@@ -126,17 +130,17 @@ start-spec =
     same-length-2
     returns-2
     enum-told
-    add-end
-    mul-end
-    slice-read-end
-    add-end-2
-    add-late
-    add-late-2
-    mul-late
-    slice-read-late
-    sub-late
-    slice-read-later
-    later-requires
+    slice-read-take
+    add-take
+    mul-take
+    slice-read-take-2
+    add-take-2
+    mul-take-2
+    slice-read-take-3
+    add-take-3
+    mul-take-3
+    slice-read-take-4
+    take-requires
     store-requires
     lower-requires
     same-length-3
