@@ -9,9 +9,10 @@ use desk_open::OpenAnswer;
 use desk_start::StartAnswer;
 use outcomes::ListAnswer;
 use outcomes::OrderAnswer;
+use running::Layout;
 
 // The words of a desk.
-pub const WORDS: usize = 1_288;
+pub const WORDS: usize = Layout::WORDS;
 
 // Opens a desk with a book: from then on the lent words carry its rows.
 pub fn open(book: &[u32], desk: &mut [u32]) -> OpenAnswer
