@@ -1,0 +1,54 @@
+// The calls of the open desk, each with what is printed of its answer.
+ghost use mathlib.Core.Path.{_≡_};
+ghost use lib.ListN.{length};
+use crate::say;
+use desk_open::OpenAnswer;
+use desk_start::StartAnswer;
+use outcomes::ListAnswer;
+use outcomes::OrderAnswer;
+
+fn open(book: &[u32], desk: &mut [u32]) {
+    match open_desk::open(book, desk) {
+        OpenAnswer::Opened(rows, minute) => {
+            say::number(b' ', rows as u64);
+            say::number(b' ', minute as u64);
+        },
+        OpenAnswer::Refused(number, place) => say::refusal(number, place),
+    }
+}
+
+fn start(desk: &mut [u32], row: u32, minute: u32) {
+    match open_desk::start(desk, row, minute) {
+        StartAnswer::Moved(end, y) => say::late(end, y),
+        StartAnswer::Refused(number, place) => say::refusal(number, place),
+    }
+}
+
+fn list(desk: &[u32], result: &mut [u32]) {
+    match open_desk::list(desk, result) {
+        ListAnswer::Plans(count) => say::number(b' ', count as u64),
+        ListAnswer::Refused(number, place) => say::refusal(number, place),
+    }
+    say::words(result);
+}
+
+fn order(desk: &[u32], plan: u32, result: &mut [u32]) {
+    match open_desk::order_of_plan(desk, plan, result) {
+        OrderAnswer::Pair(end, y) => say::late(end, y),
+        OrderAnswer::Refused(number, place) => say::refusal(number, place),
+    }
+    say::words(result);
+}
+
+// A call by the last letter of its name, with the numbers before it.
+pub fn call(letter: u8, words: &[u32], count: usize, desk: &mut [u32])
+    requires { ⌜ length (now words) ≡ 64 ⌝ }
+{
+    match letter {
+        b'n' => open(&words[..count % 65], desk),
+        b'r' => order(desk, words[0], &mut [7u32; 8]),
+        b's' => list(desk, &mut [7u32; 8]),
+        b't' => start(desk, words[0], words[1]),
+        _ => {}
+    }
+}
