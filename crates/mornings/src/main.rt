@@ -1,5 +1,5 @@
-// Runs mornings on an open desk through its calls, for the stored output to be held against. The mornings stand on standard input, as a text
-// that is printed while it is read; after each `=` comes what the call before it answers:
+// Runs mornings on an open desk through its calls, for the stored output to be held against. The mornings stand on standard input, as a
+// text that is printed while it is read; after each `=` comes what the call before it answers:
 //
 //     W, .. open=      opens the desk with the book of these words: the count of rows and the desk's minute
 //     R, M, start=     starts row R at the minute M: the desk's new minute and the worst lateness so far

@@ -1,12 +1,11 @@
+-- `run` meets its contract: the loop ends, and the numbers keep their room.
+-- Assumes nothing.
 use borrow.Author.Needs.{needs}
 use Prim.Native.Nat.{_≤_, _-_}
 use mathlib.Core.Path.{_≡_}
 use lib.ListN.{length}
 use Rattle.mornings.proofs.run.Statement.{statement}
 use Rattle.mornings.proofs.run.Tie as tie
-use Rattle.mornings.proofs.run.Reads as reads
-use Rattle.mornings.proofs.run.Lts as lts
-use Rattle.mornings.proofs.input.read.Reads as read-reads
 
 abbrev Inv-loop : tie.InvT-loop
 Inv-loop bytes words₀ desk₀ s₀ i₀ words desk s i = (i ≤ length bytes) × (length words ≡ length words₀) × (length desk ≡ length desk₀)

@@ -1,15 +1,11 @@
+-- `call` meets its contract: each call is lent a part of the numbers, or a buffer of its own.
+-- Assumes nothing.
 use borrow.Author.Needs.{needs}
 use native.Mathlib.Omega.{arith}
 use mathlib.Core.Path.{sym}
 use lib.Seq.{length-take-le}
 use Rattle.mornings.proofs.calls.call.Statement.{statement}
 use Rattle.mornings.proofs.calls.call.Tie as tie
-use Rattle.mornings.proofs.calls.call.Reads as reads
-use Rattle.mornings.proofs.calls.call.Lts as lts
-use Rattle.mornings.proofs.calls.list.Reads as list-reads
-use Rattle.mornings.proofs.calls.open.Reads as open-reads
-use Rattle.mornings.proofs.calls.order.Reads as order-reads
-use Rattle.mornings.proofs.calls.start.Reads as start-reads
 
 slice-aggregate-open : tie.Need-slice-aggregate-open
 slice-aggregate-open c = sym (length-take-le _ _ (omega arith))

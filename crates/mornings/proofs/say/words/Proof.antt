@@ -1,11 +1,10 @@
+-- `words` meets its contract: the loop ends.
+-- Assumes nothing.
 use borrow.Author.Needs.{needs}
 use Prim.Native.Nat.{_≤_, _-_}
 use lib.ListN.{length}
 use Rattle.mornings.proofs.say.words.Statement.{statement}
 use Rattle.mornings.proofs.say.words.Tie as tie
-use Rattle.mornings.proofs.say.words.Reads as reads
-use Rattle.mornings.proofs.say.words.Lts as lts
-use Rattle.mornings.proofs.say.signed.Reads as signed-reads
 
 abbrev Inv-loop : tie.InvT-loop
 Inv-loop result k₀ k = k ≤ length result
