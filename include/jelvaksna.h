@@ -69,11 +69,12 @@
  * what they held, in every call.
  *
  * How the words are laid out is the library's own and may change with a
- * version. On one version a desk may be copied, stored and moved as plain
- * words. Calls that write a desk (open, start) must not run at the same time as
- * any other call on it; calls that only read it (list, order of plan) may run
- * at the same time as each other. A refused call leaves the desk as it is, so
- * it always holds what the accepted starts alone give.
+ * version; how many they are does not. On one version a desk may be copied,
+ * stored and moved as plain words. Calls that write a desk (open, start) must
+ * not run at the same time as any other call on it; calls that only read it
+ * (list, order of plan) may run at the same time as each other. A refused call
+ * leaves the desk as it is, so it always holds what the accepted starts alone
+ * give.
  *
  * A run that is shorter, or that a call can see to be no desk, is refused RANGE
  * at 0 and left as it is. But a run that no opening has filled, or that was
