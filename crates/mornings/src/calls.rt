@@ -46,8 +46,8 @@ pub fn call(letter: u8, words: &[u32], count: usize, desk: &mut [u32])
 {
     match letter {
         b'n' => open(&words[..count % 65], desk),
-        b'r' => order(desk, words[0], &mut [7u32; 8]),
-        b's' => list(desk, &mut [7u32; 8]),
+        b'r' => order(desk, words[0], &mut [7u32; 9]),
+        b's' => list(desk, &mut [7u32; 9]),
         b't' => start(desk, words[0], words[1]),
         _ => {}
     }

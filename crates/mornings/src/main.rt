@@ -7,7 +7,7 @@
 //     K, order=        the order of plan K: its end and worst lateness
 //
 // A word of a book is written KIND:VALUE. A comma ends a number, and a call takes the numbers of its own line. Of its name only the last
-// letter counts. A refusal is printed as number@place. After a list or an order come the eight words of the buffer, which are 7 before it.
+// letter counts. A refusal is printed as number@place. After a list or an order come the nine words of the buffer, which are 7 before it.
 ghost use mathlib.Core.Path.{_≡_};
 ghost use lib.ListN.{length};
 
