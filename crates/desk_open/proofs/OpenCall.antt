@@ -15,26 +15,26 @@ use Rattle.refusals.specs.declared.Tested.the-variants.{Passed}
 use Rattle.refusals.specs.Refusals.{byNarrow}
 use Rattle.book.specs.Rows.{refused, accepted}
 use Rattle.rows.specs.InColumns.{jobsOf}
+use Rattle.rows.proofs.Laid.{releaseOf, lengthOf, dueOf}
 use Rattle.readers.specs.declared.Given.{Given}
-use Rattle.readers.specs.Reads.{readBy, Gives}
+use Rattle.readers.specs.Reads.{orderingRule, readBy, Gives}
 use Rattle.readers.proofs.Accepted.{accepted-day}
 use Rattle.readers.proofs.Readings.{Passes, given-passed}
 use Rattle.results.specs.Results.{written}
 use Rattle.outcomes.specs.Planning.{gives}
 use Rattle.running.specs.Words.{deskWords, releases, lengths, dues}
 use Rattle.desk_open.specs.declared.OpenAnswer.the-variants as open-answer
-use Rattle.desk_open.specs.Opens.{put, openedWords, deskTerms, openCall}
+use Rattle.desk_open.specs.Opens.{put, openedWords, openCall}
 use Rattle.desk_open.proofs.Puts.{put-written}
-use Rattle.desk_open.proofs.Opened.{releaseOf, lengthOf, dueOf, withHead, withDues, withLengths, dues-room, lengths-room}
-use Rattle.desk_open.proofs.Opened.{releases-room}
+use Rattle.desk_open.proofs.Opened.{withHead, withDues, withLengths, dues-room, lengths-room, releases-room}
 
 -- By what the reader gives: a refused book; a run that is too short; a desk.
 module _ (book ws : List ℕ) where
-  pub open-no : (n p : ℕ) → readBy deskTerms book ≡ refused n p → openCall book ws ≡ gives (open-answer.Refused n p) ws
+  pub open-no : (n p : ℕ) → readBy orderingRule book ≡ refused n p → openCall book ws ≡ gives (open-answer.Refused n p) ws
   unfolding openCall
   open-no n p e = rw (e, openCall)
 
-  module _ (day : Day) (e : readBy deskTerms book ≡ accepted day) where
+  module _ (day : Day) (e : readBy orderingRule book ≡ accepted day) where
     pub open-short : length ws < deskWords → openCall book ws ≡ gives (open-answer.Refused byNarrow 0) ws
     unfolding openCall
     open-short h = rw (e, openCall, lt-ltb (length ws) deskWords h)
@@ -85,14 +85,14 @@ module _ (day : Day) (few : length (day .rows) ≤ mostRows) (ws : List ℕ) (n 
       released c e
 
 -- What the reader gave of an accepted book.
-module _ (book : List ℕ) (r : Given) (g : Gives (readBy deskTerms book) r) (e : r .outcome ≡ Passed) where
-  d : Passes (readBy deskTerms book) r
-  d = given-passed (readBy deskTerms book) r g e
+module _ (book : List ℕ) (r : Given) (g : Gives (readBy orderingRule book) r) (e : r .outcome ≡ Passed) where
+  d : Passes (readBy orderingRule book) r
+  d = given-passed (readBy orderingRule book) r g e
 
   pub given-sizes : (r .count ≤ mostRows) × (length (r .columns .release) ≡ rowPlaces) ×
       (length (r .columns .length) ≡ rowPlaces) × (length (r .columns .due) ≡ rowPlaces)
   given-sizes =
-      let few = accepted-day deskTerms book (d .day) (d .contents) .few-rows in
+      let few = accepted-day orderingRule book (d .day) (d .contents) .few-rows in
       (omega (arith, d .count), d .columns .releases, d .columns .lengths, d .columns .dues)
 
   pub open-narrow : (ws : List ℕ) → length ws < deskWords → gives (open-answer.Refused byNarrow 0) ws ≡ openCall book ws

@@ -16,6 +16,7 @@ use Rattle.schedule.specs.declared.Profile.the-variants.{Ordering}
 use Rattle.schedule.specs.Rows.{noRow, row, jobOf, job, countFrom, Day}
 use Rattle.schedule.specs.Columns.{at}
 use Rattle.schedule.proofs.Numbers.{from-mem}
+use Rattle.rows.proofs.Laid.{releaseOf, lengthOf, dueOf}
 use Rattle.readers.specs.Accepted.{AcceptedDay}
 use Rattle.results.specs.Results.{written}
 use Rattle.running.specs.Running.{noJob, opened}
@@ -36,16 +37,7 @@ column-at f e before rows ws room (suc k) h g =
     put-inside (before + 1) (map f rows) ws room k (omega (arith, length-map rows f)) ∙
     ap (getD (map f rows) k) (sym e) ∙ List·getD-map f rows k noRow
 
--- What stands in the columns of a row, and the words as they are put one column after another.
-abbrev pub releaseOf : Row → ℕ
-releaseOf r = r .release
-
-abbrev pub lengthOf : Row → ℕ
-lengthOf r = r .length
-
-abbrev pub dueOf : Row → ℕ
-dueOf r = r .due
-
+-- The words as they are put one column after another.
 abbrev pub withHead : Day → List ℕ
 withHead day = put 0 (length (day .rows) ∷ day .free ∷ []) (replicate deskWords 0)
 

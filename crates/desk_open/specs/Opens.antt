@@ -6,12 +6,10 @@ use mathlib.Core.List.{List, [], _∷_, _++_, map}
 use lib.Dec.{ltb}
 use lib.ListN.{length, take, drop, replicate}
 use Rattle.schedule.specs.declared.Row.{Row}
-use Rattle.schedule.specs.declared.Profile.the-variants.{Ordering}
 use Rattle.schedule.specs.Rows.{Day}
 use Rattle.refusals.specs.Refusals.{byNarrow}
 use Rattle.book.specs.Rows.{refused, accepted}
-use Rattle.readers.specs.declared.Terms.{Terms}
-use Rattle.readers.specs.Reads.{readBy}
+use Rattle.readers.specs.Reads.{orderingRule, readBy}
 use Rattle.results.specs.Results.{written}
 use Rattle.outcomes.specs.Planning.{Outcome, gives}
 use Rattle.running.specs.Words.{deskWords, releases, lengths, dues}
@@ -31,14 +29,10 @@ openedWords day =
     (put (dues + 1) (map (λ (r : Row). r .due) (day .rows))
     (put 0 (length (day .rows) ∷ day .free ∷ []) (replicate deskWords 0))))
 
--- What the reader is told: a desk is opened by the ordering rule.
-abbrev pub deskTerms : Terms
-deskTerms = record { profile = Ordering }
-
--- The call: the book's refusals, then a run that is too short; otherwise the count of rows and the desk's minute, and the words of the
--- desk. Words of a longer run hold what they held.
+-- The call, by the ordering rule: the book's refusals, then a run that is too short; otherwise the count of rows and the desk's minute, and
+-- the words of the desk. Words of a longer run hold what they held.
 unfoldable pub openCall : (book desk : List ℕ) → Outcome OpenAnswer
-openCall book ws = elim (readBy deskTerms book) [
+openCall book ws = elim (readBy orderingRule book) [
   | refused n p ↦ gives (open-answer.Refused n p) ws
   | accepted day ↦ elim (ltb (length ws) deskWords) [
     | true ↦ gives (open-answer.Refused byNarrow 0) ws

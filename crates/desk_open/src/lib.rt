@@ -15,12 +15,6 @@ use readers::Terms;
 use refusals::Tested;
 use running::Layout;
 use schedule::Desk;
-use schedule::Profile;
-
-// What the reader is told: a desk is opened by the ordering rule.
-const DESK_TERMS: Terms = Terms {
-    profile: Profile::Ordering,
-};
 
 // The answer to an opening: the count of rows, and the desk's minute.
 pub enum OpenAnswer {
@@ -81,7 +75,7 @@ fn put_day<'a>(
 pub fn open(book: &[u32], desk: &mut [u32]) -> OpenAnswer
     ensures { λ r. ⌜ gives r (now (desk .exit)) ≡ openCall (now (book .entry)) (now (desk .entry)) ⌝ }
 {
-    let given = readers::read(DESK_TERMS, book);
+    let given = readers::read(Terms::ORDERING_RULE, book);
     let outcome = given.outcome;
     if let Tested::Refused(number, place) = outcome {
         return OpenAnswer::Refused(number, place);

@@ -1,3 +1,4 @@
 pub mod RowsPut
 pub mod Sound
+pub mod PlanCalls
 pub mod PlansLeft

@@ -1,9 +1,9 @@
 -- The calls on the columns of the rows left are the calls on the desk: the same list, and the same order under the rows' own numbers.
 -- Assumes nothing.
-use Prim.Native.Nat.{ℕ, zero, suc, _*_, _≤_, _<_}
+use Prim.Native.Nat.{ℕ, _*_, _≤_, _<_}
 use native.Mathlib.Omega.{arith}
 use native.Mathlib.Decide.{decLe}
-use mathlib.Core.Bool.{Bool, true, false, _&&_}
+use mathlib.Core.Bool.{true}
 use mathlib.Core.Path.{_≡_, refl, sym, ap, _∙_, subst}
 use mathlib.Core.List.{List, [], _∷_, map, List·Memᴰ}
 use mathlib.Core.Option.{Option, none, some, Option·map}
@@ -17,11 +17,10 @@ use Rattle.schedule.specs.Desk.{Pair, OrderOf}
 use Rattle.schedule.specs.Cover.{Agreeing}
 use Rattle.schedule.specs.Profiles.{plansBy, orderBy}
 use Rattle.schedule.specs.Columns.{at}
-use Rattle.schedule.proofs.Tests.{false-is-true}
 use Rattle.schedule.proofs.Numbers.{length-count, count-range}
 use Rattle.schedule.proofs.Orders.{perm-all}
 use Rattle.schedule.proofs.Renumbered.{renumbered, agreeing, same-plans, pair-renumbered}
-use Rattle.refusals.specs.Refusals.{byRange, byUnlisted}
+use Rattle.refusals.specs.Refusals.{byUnlisted}
 use Rattle.rows.specs.InColumns.{jobsOf}
 use Rattle.results.specs.Results.{written, planWords}
 use Rattle.outcomes.specs.declared.ListAnswer.the-variants as list-answer
@@ -33,27 +32,17 @@ use Rattle.outcomes.specs.Plannable.{Plannable}
 use Rattle.outcomes.proofs.OutcomeLaws.{list-narrow, list-is, plan-is, plan-unlisted, order-narrow, order-some, order-none}
 use Rattle.outcomes.proofs.Sound.{posted}
 use Rattle.outcomes.proofs.Columns.{sound-in, order-length, posting-rows}
-use Rattle.running.specs.Running.{Running, jobIn}
-use Rattle.running.specs.Words.{countIn, minuteIn, rowsIn, leftTo, running, isDesk, IsDesk}
-use Rattle.running.proofs.Fits.{desk-says}
+use Rattle.running.specs.Running.{jobIn}
+use Rattle.running.specs.Words.{countIn, minuteIn, rowsIn, leftTo, running, IsDesk}
 use Rattle.rows_left.specs.declared.Left.{Left}
 use Rattle.rows_left.specs.Left.{canPlan, plansHere}
 use Rattle.rows_left.specs.Gathered.{Gathered, Looked}
-use Rattle.rows_left.proofs.CanPlan.{can-plan-says}
+use Rattle.rows_left.proofs.CanPlan.{can-plan-says, plans-here-says}
 use Rattle.rows_left.proofs.Gathering.{few-left, left-ranged, columns-within, left-matches, left-renumbers}
-use Rattle.desk_plans.specs.Plans.{plansFrom, planningLeft, deskListCall, deskPlanCall}
+use Rattle.desk_plans.specs.Plans.{planningLeft, deskListCall, deskPlanCall}
 use Rattle.desk_plans.proofs.RowsPut.{putTo, written-put}
 use Rattle.desk_plans.proofs.Sound.{sound-left}
-
--- A run that holds no desk whose rows left can be planned is refused.
-module _ (ws b : List ℕ) (no : plansHere ws ≡ false) where
-  pub list-refused : gives (list-answer.Refused byRange 0) b ≡ deskListCall ws b
-  unfolding deskListCall
-  list-refused = sym (rw (no, deskListCall))
-
-  pub plan-refused : (k : ℕ) → gives (order-answer.Refused byRange 0) b ≡ deskPlanCall ws k b
-  unfolding deskPlanCall
-  plan-refused k = sym (rw (no, deskPlanCall))
+use Rattle.desk_plans.proofs.PlanCalls.{list-here, plan-here, no-plans, none-numbered}
 
 -- What is known of a look that is ready.
 pub record Ready (ws : List ℕ) (left : Left) : Type 0 where
@@ -62,53 +51,34 @@ pub record Ready (ws : List ℕ) (left : Left) : Type 0 where
   pub can : canPlan (running ws) ≡ true
   pub rows : Gathered ws left
 
-both-true : (a b : Bool) → (a && b) ≡ true → (a ≡ true) × (b ≡ true)
-both-true true b e = (refl, e)
-both-true false b e = false-is-true e
-
 pub ready : (ws : List ℕ) (left : Left) → Looked ws left → left .ready ≡ true → Ready ws left
-unfolding plansHere
 ready ws left l e =
-    let t = both-true (isDesk ws) (canPlan (running ws)) (sym (l .told) ∙ e) in
-    record { here = sym (l .told) ∙ e; desk = desk-says ws .0 (t .0); can = t .1; rows = l .rows e }
-
--- A desk with other rows left. With none there are no plans.
-abbrev withLeft : Running → List ℕ → Running
-withLeft d is = record { rows = d .rows; left = is; minute = d .minute; worst = d .worst }
-
-list-empty : (d : Running) (is b : List ℕ) → length is ≡ 0 →
-    gives (list-answer.Plans 0) b ≡ listOutcome (planningLeft (withLeft d is)) b
-unfolding plansFrom written planWords
-list-empty d [] b h = sym (list-is (planningLeft (withLeft d [])) b (omega arith))
-list-empty d (i ∷ is) b h = let z : ⊥ = omega arith in absurd z
-
-plan-empty : (d : Running) (is b : List ℕ) (k : ℕ) → length is ≡ 0 →
-    gives (order-answer.Refused byUnlisted 0) b ≡ planOutcome (planningLeft (withLeft d is)) k b
-unfolding plansFrom nth
-plan-empty d [] b k h = sym (plan-unlisted (planningLeft (withLeft d [])) k b (none-there k))
-  where
-    none-there : (k : ℕ) → nth {A = Pair} [] k ≡ none
-    none-there zero = refl
-    none-there (suc k) = refl
-plan-empty d (i ∷ is) b k h = let z : ⊥ = omega arith in absurd z
+    let here = sym (l .told) ∙ e in
+    let h = plans-here-says ws .0 here in
+    record { here = here; desk = h .0; can = h .1; rows = l .rows e }
 
 module _ (ws : List ℕ) (left : Left) (r : Ready ws left) where
   abbrev desk : Planning
   desk = planningLeft (running ws)
 
-  list-here : (b : List ℕ) → listOutcome desk b ≡ deskListCall ws b
-  unfolding deskListCall
-  list-here b = sym (rw (r .here, deskListCall))
-
-  plan-here : (k : ℕ) (b : List ℕ) → planOutcome desk k b ≡ deskPlanCall ws k b
-  unfolding deskPlanCall
-  plan-here k b = sym (rw (r .here, deskPlanCall))
+  no-row : left .count ≡ 0 → running ws .left ≡ []
+  no-row e = nothing (leftTo ws (countIn ws)) (sym (r .rows .counted) ∙ e)
+    where
+      nothing : (is : List ℕ) → length is ≡ 0 → is ≡ []
+      nothing [] h = refl
+      nothing (i ∷ is) h = let z : ⊥ = omega arith in absurd z
 
   pub list-none : left .count ≡ 0 → (b : List ℕ) → gives (list-answer.Plans 0) b ≡ deskListCall ws b
-  list-none e b = list-empty (running ws) (leftTo ws (countIn ws)) b (sym (r .rows .counted) ∙ e) ∙ list-here b
+  unfolding written planWords
+  list-none e b =
+      let size : length (desk .left) ≡ 0 = sym (r .rows .counted) ∙ e in
+      sym (list-here ws b (r .here) ∙ list-is desk b (omega (arith, size)) ∙
+      ap (λ (ps : List Pair). gives (list-answer.Plans (length ps)) (written (planWords ps) b)) (no-plans (running ws) (no-row e)))
 
   pub plan-none : left .count ≡ 0 → (k : ℕ) (b : List ℕ) → gives (order-answer.Refused byUnlisted 0) b ≡ deskPlanCall ws k b
-  plan-none e k b = plan-empty (running ws) (leftTo ws (countIn ws)) b k (sym (r .rows .counted) ∙ e) ∙ plan-here k b
+  plan-none e k b =
+      sym (plan-here ws b k (r .here) ∙ plan-unlisted desk k b (none-numbered (running ws) (no-row e) k) ∙
+      ap (λ (ps : List Pair). gives (order-answer.Refused byUnlisted (length ps)) b) (no-plans (running ws) (no-row e)))
 
   module _ (some-row : 1 ≤ left .count) where
     abbrev n : ℕ
@@ -159,7 +129,7 @@ module _ (ws : List ℕ) (left : Left) (r : Ready ws left) where
     sizes = (length-count 1 n, sym (r .rows .counted))
 
     pub list-done : (b : List ℕ) → listOutcome columns b ≡ deskListCall ws b
-    list-done b = step (decLe (2 * n) (length b)) ∙ list-here b
+    list-done b = step (decLe (2 * n) (length b)) ∙ sym (list-here ws b (r .here))
       where
         step : Dec (2 * n ≤ length b) → listOutcome columns b ≡ listOutcome desk b
         step (yes h) =
@@ -225,10 +195,10 @@ module _ (ws : List ℕ) (left : Left) (r : Ready ws left) where
           step none e =
               subst ComesOf (sym (plan-unlisted columns k b e))
               (ap (λ (ps : List Pair). gives (order-answer.Refused byUnlisted (length ps)) b) plans-same ∙
-              sym (plan-unlisted desk k b (there none e)) ∙ plan-here k b)
+              sym (plan-unlisted desk k b (there none e)) ∙ sym (plan-here ws b k (r .here)))
           step (some q) e =
               subst ComesOf (sym (plan-is columns k q b e))
-              (order-comes (q .late) (sym (plan-is desk k q b (there (some q) e)) ∙ plan-here k b))
+              (order-comes (q .late) (sym (plan-is desk k q b (there (some q) e)) ∙ sym (plan-here ws b k (r .here))))
 
       pub plan-done : {answer told : OrderAnswer} (after : List ℕ) → gives answer after ≡ planOutcome columns k b → answer ≡ told →
           Comes told after

@@ -9,7 +9,7 @@ ghost use Rattle.desk_open.specs.Opens.{openCall};
 ghost use Rattle.desk_start.specs.Starts.{startCall};
 ghost use Rattle.desk_plans.specs.Plans.{deskListCall, deskPlanCall};
 ghost use Rattle.open_desk.specs.Answers.{saidOpen, saidStart};
-ghost use Rattle.planner.specs.Promise.{orderingRule};
+ghost use Rattle.readers.specs.Reads.{orderingRule};
 ghost use Rattle.first_come.specs.Promise.{firstCome};
 ghost use Rattle.answers.specs.Boundary.{answerOf};
 use answers::Answer;

@@ -1,6 +1,6 @@
 -- Histories: what a desk holds after calls, one after another.
 -- Assumes nothing.
-use Prim.Native.Nat.{ℕ, zero, suc, _+_, _*_, _≤_}
+use Prim.Native.Nat.{ℕ, suc, _+_, _*_, _≤_}
 use native.Mathlib.Omega.{arith}
 use mathlib.Core.Bool.{Bool, true, false}
 use mathlib.Core.Path.{_≡_, refl, sym, ap, _∙_, subst}
@@ -22,29 +22,13 @@ use Rattle.running.specs.Words.{running, isDesk, IsDesk, movedWords}
 use Rattle.running.proofs.Fits.{desk-says}
 use Rattle.running.proofs.Starts.{may-start}
 use Rattle.running.proofs.Moves.{moved-held}
-use Rattle.desk_start.proofs.StartLaws.{start-none, start-no, start-yes}
+use Rattle.desk_start.proofs.StartLaws.{start-no, start-yes}
 use Rattle.open_desk.specs.Answers.{saidStart}
 use Rattle.open_desk.specs.History.{deskStart, Call, starts, lists, orders, afterCall, after, Start, withStart, withCall}
 use Rattle.open_desk.specs.History.{acceptedStarts, asCall, standing}
 use Rattle.open_desk.proofs.Standing.{at-first, one-more}
+use Rattle.open_desk.proofs.Memory.{start-writes}
 use Rattle.open_desk.proofs.Starts.{Found, refuses, passes, found}
-
-module _ (ws : List ℕ) (i m : ℕ) where
-  -- A refused start leaves the desk as it is.
-  pub start-kept : 1 ≤ deskStart ws i m .answer .number → deskStart ws i m .buffer ≡ ws
-  start-kept h = step (isDesk ws) refl (found (running ws) i m)
-    where
-      step : (b : Bool) → isDesk ws ≡ b → Found (running ws) i m → deskStart ws i m .buffer ≡ ws
-      step false e f = ap (λ o. o .buffer) (start-none ws i m e)
-      step true e (refuses n p l t u only) = ap (λ o. o .buffer) (start-no ws i m e n p t)
-      step true e (passes t never) =
-          let zero = ap (λ o. saidStart (o .answer) .number) (start-yes ws i m e t) in
-          let z : ⊥ = omega (arith, h, zero) in
-          absurd z
-
-positive : (n : ℕ) → (n ≡ 0 → ⊥) → 1 ≤ n
-positive zero f = absurd (f refl)
-positive (suc n) f = omega arith
 
 -- The desk after the accepted starts alone is the desk after all calls.
 pub alone : (ws : List ℕ) (calls : List Call) → after ws (map asCall (acceptedStarts ws calls)) ≡ after ws calls
@@ -62,7 +46,7 @@ alone ws (starts i m ∷ cs) = step (eqb (deskStart ws i m .answer .number) 0) r
     step true e later = rw e later
     step false e later =
         let refused = eqb-false (deskStart ws i m .answer .number) 0 e in
-        let kept = start-kept ws i m (positive (deskStart ws i m .answer .number) refused) in
+        let kept = start-writes ws i m .0 .buffer (omega (arith, refused)) in
         rw e (ap (λ (v : List ℕ). after v (map asCall rest)) (sym kept) ∙ later)
 alone ws (lists b ∷ cs) = alone ws cs
 alone ws (orders k b ∷ cs) = alone ws cs

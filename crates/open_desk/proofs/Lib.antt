@@ -1,6 +1,6 @@
 pub mod Standing
 pub mod Starts
+pub mod Memory
 pub mod Histories
 pub mod Refused
-pub mod Memory
 pub mod Promise

@@ -7,15 +7,15 @@ use mathlib.Core.Bool.{Bool, true, false}
 use mathlib.Core.Path.{_≡_, refl, sym, ap, _∙_, subst}
 use mathlib.Core.List.{List, _++_}
 use mathlib.Core.Logic.{_⊎_, inl, inr}
-use lib.ListN.{length, drop, getD, set, length-set}
-use lib.Seq.{getD-set-other, drop-append-seam}
+use lib.ListN.{length, drop, getD}
+use lib.Seq.{drop-append-seam}
 use Rattle.schedule.specs.declared.Profile.{Profile}
 use Rattle.schedule.specs.declared.Profile.the-variants.{Ordering, FirstCome}
 use Rattle.schedule.specs.Offset.{raised}
 use Rattle.schedule.specs.Rows.{Day}
 use Rattle.refusals.specs.Refusals.{byNarrow, byRange}
 use Rattle.book.specs.Rows.{Contents, refused, accepted}
-use Rattle.readers.specs.Reads.{readBy}
+use Rattle.readers.specs.Reads.{orderingRule, readBy}
 use Rattle.readers.proofs.Accepted.{accepted-day}
 use Rattle.results.specs.Results.{written}
 use Rattle.outcomes.specs.Planning.{Outcome, gives}
@@ -27,7 +27,8 @@ use Rattle.promises.proofs.Accepted.{book-refused}
 use Rattle.promises.proofs.Numbers.{wrong-numbered}
 use Rattle.running.specs.Running.{Running, endAt, worstAt}
 use Rattle.running.specs.Words.{deskWords, running, marks, isDesk, movedWords}
-use Rattle.desk_open.specs.Opens.{openedWords, deskTerms}
+use Rattle.running.proofs.Moves.{moved-length, moved-other}
+use Rattle.desk_open.specs.Opens.{openedWords}
 use Rattle.desk_open.proofs.Opened.{opened-held, opened-long}
 use Rattle.desk_open.proofs.OpenCall.{open-no, open-short, open-yes}
 use Rattle.desk_start.proofs.StartLaws.{start-none, start-no, start-yes}
@@ -67,30 +68,30 @@ module _ (book ws : List ℕ) where
   abbrev OpenWrites : Outcome Said → Type 0
   OpenWrites o = Lent (λ n. (1 ≤ n) × (n ≤ 9)) ws o × (drop deskWords (o .buffer) ≡ drop deskWords ws)
 
-  written-past : (day : Day) → readBy deskTerms book ≡ accepted day → drop deskWords (written (openedWords day) ws) ≡ drop deskWords ws
+  written-past : (day : Day) → readBy orderingRule book ≡ accepted day → drop deskWords (written (openedWords day) ws) ≡ drop deskWords ws
   unfolding written
   written-past day e =
-      let long = opened-long day (accepted-day deskTerms book day e .few-rows) in
+      let long = opened-long day (accepted-day orderingRule book day e .few-rows) in
       ap (λ (n : ℕ). drop n (openedWords day ++ drop (length (openedWords day)) ws)) (sym long) ∙
       (drop-append-seam (openedWords day) (drop (length (openedWords day)) ws) ∙ ap (λ (n : ℕ). drop n ws) long)
 
   pub open-writes : OpenWrites (deskOpen book ws)
-  open-writes = step (readBy deskTerms book) refl
+  open-writes = step (readBy orderingRule book) refl
     where
-      room : (day : Day) → readBy deskTerms book ≡ accepted day → Dec (deskWords ≤ length ws) → OpenWrites (deskOpen book ws)
+      room : (day : Day) → readBy orderingRule book ≡ accepted day → Dec (deskWords ≤ length ws) → OpenWrites (deskOpen book ws)
       room day e (yes h) =
           subst OpenWrites (sym (ap (told saidOpen) (open-yes book ws day e h))) (
-            lent-yes _ ws (written (openedWords day) ws) refl (opened-held day ws (accepted-day deskTerms book day e) h .2),
+            lent-yes _ ws (written (openedWords day) ws) refl (opened-held day ws (accepted-day orderingRule book day e) h .2),
             written-past day e,
           )
       room day e (no h) =
           subst OpenWrites (sym (ap (told saidOpen) (open-short book ws day e (omega arith))))
           (lent-no byNarrow 0 ws (omega arith, omega arith), refl)
 
-      step : (x : Contents) → readBy deskTerms book ≡ x → OpenWrites (deskOpen book ws)
+      step : (x : Contents) → readBy orderingRule book ≡ x → OpenWrites (deskOpen book ws)
       step (refused n p) e =
           subst OpenWrites (sym (ap (told saidOpen) (open-no book ws n p e)))
-          (lent-no n p ws (book-numbers (book-refused deskTerms book n p .0 e)), refl)
+          (lent-no n p ws (book-numbers (book-refused orderingRule book n p .0 e)), refl)
       step (accepted day) e = room day e (decLe deskWords (length ws))
 
 -- # A start
@@ -108,16 +109,6 @@ module _ (ws : List ℕ) (i m : ℕ) where
   Writes o = Lent StartNumbers ws o ×
       ((place : ℕ) → ¬ (place ≡ 1) → ¬ (place ≡ 2) → ¬ (place ≡ marks + i) → getD (o .buffer) place 0 ≡ getD ws place 0)
 
-  moved-length : (end worst : ℕ) → length (movedWords ws i end worst) ≡ length ws
-  moved-length end worst =
-      length-set (set (set ws 1 end) 2 worst) (marks + i) 1 ∙ (length-set (set ws 1 end) 2 worst ∙ length-set ws 1 end)
-
-  moved-other : (end worst place : ℕ) → ¬ (place ≡ 1) → ¬ (place ≡ 2) → ¬ (place ≡ marks + i) →
-      getD (movedWords ws i end worst) place 0 ≡ getD ws place 0
-  moved-other end worst place f g h =
-      getD-set-other (set (set ws 1 end) 2 worst) (marks + i) place 1 0 h ∙
-      (getD-set-other (set ws 1 end) 2 place worst 0 g ∙ getD-set-other ws 1 place end 0 f)
-
   pub start-writes : Writes (deskStart ws i m)
   start-writes = step (isDesk ws) refl (found (running ws) i m)
     where
@@ -130,4 +121,4 @@ module _ (ws : List ℕ) (i m : ℕ) where
           let end = endAt (running ws) i m in
           let worst = raised (worstAt (running ws) i m) in
           subst Writes (sym (ap (told saidStart) (start-yes ws i m e t)))
-          (lent-yes _ ws (movedWords ws i end worst) refl (moved-length end worst), moved-other end worst)
+          (lent-yes _ ws (movedWords ws i end worst) refl (moved-length ws i end worst), moved-other ws i end worst)

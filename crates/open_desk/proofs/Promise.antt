@@ -19,6 +19,7 @@ use Rattle.schedule.proofs.Ranges.{in-range}
 use Rattle.refusals.specs.declared.Tested.the-variants.{Passed}
 use Rattle.book.specs.Rows.{accepted}
 use Rattle.readers.specs.Accepted.{AcceptedDay}
+use Rattle.readers.specs.Reads.{orderingRule}
 use Rattle.readers.proofs.Accepted.{accepted-day}
 use Rattle.results.specs.Results.{written, planWords}
 use Rattle.results.proofs.ResultWords.{plan-length}
@@ -38,11 +39,12 @@ use Rattle.running.specs.Words.{running, isDesk}
 use Rattle.running.proofs.Fits.{desk-says}
 use Rattle.running.proofs.Starts.{may-start}
 use Rattle.rows_left.specs.Left.{plansHere}
-use Rattle.desk_open.specs.Opens.{openedWords, deskTerms}
+use Rattle.desk_open.specs.Opens.{openedWords}
 use Rattle.desk_open.proofs.Opened.{opened-held}
 use Rattle.desk_open.proofs.OpenCall.{open-yes}
 use Rattle.desk_start.proofs.StartLaws.{start-no, start-yes}
 use Rattle.desk_plans.specs.Plans.{planningLeft}
+use Rattle.desk_plans.proofs.PlanCalls.{list-away, list-here, plan-away, plan-here, no-plans, none-numbered}
 use Rattle.open_desk.specs.Answers.{saidOpen, saidStart, saidMoved}
 use Rattle.open_desk.specs.History.{deskOpen, deskStart, deskList, deskPlan, Call, after, Start, acceptedStarts, notTaken}
 use Rattle.open_desk.specs.History.{endOfStart, latenessOfStart, standing}
@@ -55,17 +57,17 @@ use Rattle.open_desk.proofs.Refused as refused
 use Rattle.open_desk.proofs.Memory.{open-writes, start-writes}
 
 -- A row that no start has taken is one of the rows.
-left-row : (day : Day) (done : List Start) (is : List ℕ) (i : ℕ) → List·Memᴰ i (notTaken day done is) → List·Memᴰ i is
+left-row : (done : List Start) (is : List ℕ) (i : ℕ) → List·Memᴰ i (notTaken done is) → List·Memᴰ i is
 unfolding notTaken
-left-row day done [] i m = m
-left-row day done (j ∷ js) i m = step (stands j (map (λ (s : Start). s .row) done)) m (left-row day done js i)
+left-row done [] i m = m
+left-row done (j ∷ js) i m = step (stands j (map (λ (s : Start). s .row) done)) m (left-row done js i)
   where
-    keep : List·Memᴰ i (j ∷ notTaken day done js) → (List·Memᴰ i (notTaken day done js) → List·Memᴰ i js) → List·Memᴰ i (j ∷ js)
+    keep : List·Memᴰ i (j ∷ notTaken done js) → (List·Memᴰ i (notTaken done js) → List·Memᴰ i js) → List·Memᴰ i (j ∷ js)
     keep (List·Memᴰ·head e) later = List·Memᴰ·head e
     keep (List·Memᴰ·tail t) later = List·Memᴰ·tail (later t)
 
-    step : (b : Bool) → List·Memᴰ i (cond b (notTaken day done js) (j ∷ notTaken day done js)) →
-        (List·Memᴰ i (notTaken day done js) → List·Memᴰ i js) → List·Memᴰ i (j ∷ js)
+    step : (b : Bool) → List·Memᴰ i (cond b (notTaken done js) (j ∷ notTaken done js)) →
+        (List·Memᴰ i (notTaken done js) → List·Memᴰ i js) → List·Memᴰ i (j ∷ js)
     step true m later = List·Memᴰ·tail (later m)
     step false m later = keep m later
 
@@ -76,7 +78,7 @@ module _ (day : Day) (a : AcceptedDay Ordering day) (done : List Start) where
 
   agree : Agreeing (jobIn (d .rows)) (d .left)
   agree i j m n = rw (job-held day i, job-held day j)
-      (a .rule i j (left-row day done (rowNumbers day) i m) (left-row day done (rowNumbers day) j n))
+      (a .rule i j (left-row done (rowNumbers day) i m) (left-row done (rowNumbers day) j n))
 
   -- Ends and latenesses: the minute leaves room for the rows left.
   in-time : length (d .left) ≤ mostRows → d .minute + longestLength * length (d .left) ≤ latestDeskEnd → 0 < length (d .left) →
@@ -92,7 +94,7 @@ module _ (day : Day) (a : AcceptedDay Ordering day) (done : List Start) where
         early = omega arith;
         few = omega arith;
         ranges = λ i m.
-            let u = a .ranged i (left-row day done (rowNumbers day) i m) in
+            let u = a .ranged i (left-row done (rowNumbers day) i m) in
             rw (job-held day i) (omega (arith, u .0), u .1, u .2, u .3);
       }) some order o in
       (omega (arith, r .0, all), subst (λ (e : ℕ). lateBy (planningLeft d) order ≤ℤ pos e) all (r .1), r .2)
@@ -107,26 +109,26 @@ module _ (ws : List ℕ) where
     where
       rows : CanPlan ws → (is : List ℕ) → running ws .left ≡ is → memory.Kept b (told saidList (listOutcome g b))
       rows c [] e =
-          let none = refused.no-plans ws e in
+          let none = no-plans (running ws) e in
           rw (list-is g b (omega (arith, ap (λ (js : List ℕ). length js) e)))
           (memory.kept-yes (saidCount (length (g .plans))) (planWords (g .plans)) b refl
           (omega (arith, plan-length (g .plans), ap (λ (ps : List Pair). length ps) none)))
       rows c (i ∷ is) e = memory.list-kept g (refused.sound ws c (omega (arith, ap (λ (js : List ℕ). length js) e))) b
 
       step : (t : Bool) → plansHere ws ≡ t → memory.Kept b (deskList ws b)
-      step false e = rw (refused.list-away ws e b) memory.kept-no
-      step true e = rw (refused.list-here ws e b) (rows (refused.here ws e) (running ws .left) refl)
+      step false e = rw (list-away ws b e) memory.kept-no
+      step true e = rw (list-here ws b e) (rows (refused.here ws e) (running ws .left) refl)
 
   plan-buffer : (k : ℕ) (b : List ℕ) → memory.Kept b (deskPlan ws k b)
   plan-buffer k b = step (plansHere ws) refl
     where
       rows : CanPlan ws → (is : List ℕ) → running ws .left ≡ is → memory.Kept b (told saidOrder (planOutcome g k b))
-      rows c [] e = rw (plan-unlisted g k b (refused.none-at ws e k)) memory.kept-no
+      rows c [] e = rw (plan-unlisted g k b (none-numbered (running ws) e k)) memory.kept-no
       rows c (i ∷ is) e = memory.plan-kept g (refused.sound ws c (omega (arith, ap (λ (js : List ℕ). length js) e))) k b
 
       step : (t : Bool) → plansHere ws ≡ t → memory.Kept b (deskPlan ws k b)
-      step false e = rw (refused.plan-away ws e k b) memory.kept-no
-      step true e = rw (refused.plan-here ws e k b) (rows (refused.here ws e) (running ws .left) refl)
+      step false e = rw (plan-away ws b k e) memory.kept-no
+      step true e = rw (plan-here ws b k e) (rows (refused.here ws e) (running ws .left) refl)
 
   list-numbers : (b : List ℕ) (n p : ℕ) → DeskTurned (CanPlan ws) (ListTurned g b) n p → (n ≡ 3) ⊎ (n ≡ 9)
   list-numbers b _ _ (no-desk f) = inl refl
@@ -220,7 +222,7 @@ module _ (day : Day) (a : AcceptedDay Ordering day) (first-words : List ℕ) (ca
       deskList words b ≡ gives (saidCount (length front)) (written (planWords front) b)
   list-given some b wide =
       let g = planningLeft (running words) in
-      ap (told saidList) (refused.list-here words (refused.here-is words can) b) ∙ list-front g (refused.sound words can some) b wide
+      ap (told saidList) (list-here words b (refused.here-is words can)) ∙ list-front g (refused.sound words can some) b wide
 
   list-covers : 0 < length (running words .left) → (b : List ℕ) → 2 * length (running words .left) ≤ length b →
       Covered (planningLeft (running words)) (listed (deskList words b)) ×
@@ -229,17 +231,17 @@ module _ (day : Day) (a : AcceptedDay Ordering day) (first-words : List ℕ) (ca
       let g = planningLeft (running words) in
       let ok = refused.sound words can some in
       let here = refused.here-is words can in (
-        rw (refused.list-here words here b) (covered g ok b wide),
-        λ k p c. rw (refused.list-here words here b, refused.plan-here words here k c)
+        rw (list-here words b here) (covered g ok b wide),
+        λ k p c. rw (list-here words b here, plan-here words c k here)
             (plan-orders g ok b wide k p c),
       )
 
   none-left : running words .left ≡ [] → (b : List ℕ) → deskList words b .answer ≡ saidCount 0
   none-left e b =
       let g = planningLeft (running words) in
-      ap (λ o. saidList (o .answer)) (refused.list-here words (refused.here-is words can) b ∙
+      ap (λ o. saidList (o .answer)) (list-here words b (refused.here-is words can) ∙
       list-is g b (omega (arith, ap (λ (js : List ℕ). length js) e))) ∙
-      ap (λ (ps : List Pair). saidCount (length ps)) (refused.no-plans words e)
+      ap (λ (ps : List Pair). saidCount (length ps)) (no-plans (running words) e)
 
   after-calls : AfterCalls day first-words calls
   after-calls = record {
@@ -269,8 +271,8 @@ module _ (day : Day) (a : AcceptedDay Ordering day) (first-words : List ℕ) (ca
 
 pub open-desk : OpenDesk
 open-desk book ws day accepts-it wide =
-    let reads = accepts deskTerms book day .1 accepts-it in
-    let a = accepted-day deskTerms book day reads in
+    let reads = accepts orderingRule book day .1 accepts-it in
+    let a = accepted-day orderingRule book day reads in
     let opens = open-yes book ws day reads wide in
     let h = opened-held day ws a wide in
     let begun = subst (State day []) (sym (ap (λ o. o .buffer) opens)) (first day a (written (openedWords day) ws) (h .0) (h .1)) in (

@@ -1,56 +1,47 @@
 -- Each call of an open desk is refused exactly as the table says.
 -- Assumes nothing.
-use Prim.Native.Nat.{ℕ, zero, suc, _≤_, _<_}
+use Prim.Native.Nat.{ℕ, _≤_, _<_}
 use native.Mathlib.Omega.{arith}
 use native.Mathlib.Decide.{decLe}
 use mathlib.Core.Bool.{Bool, true, false}
 use mathlib.Core.Path.{_≡_, refl, sym, ap, _∙_}
 use mathlib.Core.List.{List, [], _∷_}
 use mathlib.Core.Logic.{_↔_}
-use mathlib.Core.Option.{none}
 use lib.ListN.{length}
 use Rattle.schedule.specs.declared.Profile.the-variants.{Ordering}
 use Rattle.schedule.specs.Desk.{Pair}
 use Rattle.schedule.specs.Rows.{Day}
-use Rattle.schedule.proofs.Tests.{false-is-true, is-true, true-is, parts}
+use Rattle.schedule.proofs.Tests.{false-is-true}
 use Rattle.refusals.specs.Refusals.{byRange, byNarrow, byUnlisted}
 use Rattle.book.specs.Rows.{refused, accepted}
-use Rattle.readers.specs.Reads.{readBy}
-use Rattle.outcomes.specs.Planning.{gives, nth, Planning}
-use Rattle.outcomes.specs.Outcomes.{listOutcome, planOutcome}
-use Rattle.outcomes.specs.declared.ListAnswer.the-variants as list-answer
-use Rattle.outcomes.specs.declared.OrderAnswer.the-variants as order-answer
+use Rattle.readers.specs.Reads.{orderingRule, readBy}
+use Rattle.outcomes.specs.Planning.{Planning}
+use Rattle.outcomes.specs.Outcomes.{planOutcome}
 use Rattle.outcomes.proofs.OutcomeLaws.{plan-unlisted}
-use Rattle.outcomes.proofs.Plans.{nth-zero, nth-out}
 use Rattle.outcomes.proofs.Sound.{Sound}
 use Rattle.calls.specs.Answers.{Said, saidNo, saidList, saidOrder}
 use Rattle.promises.specs.Vocabulary.{Refuses}
 use Rattle.promises.specs.Table.{Turned, ListTurned, PlanTurned}
 use Rattle.promises.specs.Table as table
 use Rattle.promises.proofs.Refused.{says-no, says-yes, turned, list-turned, plan-turned}
-use Rattle.running.specs.Running.{jobIn}
 use Rattle.running.specs.Words.{deskWords, running, isDesk, IsDesk}
 use Rattle.running.proofs.Fits.{desk-says}
-use Rattle.rows_left.specs.Left.{canPlan, plansHere}
-use Rattle.rows_left.proofs.CanPlan.{can-plan-says}
+use Rattle.rows_left.specs.Left.{plansHere}
+use Rattle.rows_left.proofs.CanPlan.{can-plan-says, plans-here-says}
 use Rattle.rows_left.proofs.Gathering.{left-ranged}
-use Rattle.desk_open.specs.Opens.{deskTerms}
 use Rattle.desk_open.proofs.OpenCall.{open-no, open-short, open-yes}
-use Rattle.desk_plans.specs.Plans.{plansFrom, planningLeft, deskListCall, deskPlanCall}
+use Rattle.desk_plans.specs.Plans.{planningLeft}
 use Rattle.desk_plans.proofs.Sound.{sound-left}
+use Rattle.desk_plans.proofs.PlanCalls.{list-away, list-here, plan-away, plan-here, no-plans, none-numbered}
 use Rattle.open_desk.specs.Answers.{saidOpen, saidStart}
 use Rattle.open_desk.specs.History.{deskOpen, deskStart, deskList, deskPlan}
 use Rattle.open_desk.specs.Table.{OpenTurned, narrow, StartTurned, CanPlan, DeskTurned, no-desk, by-call}
 use Rattle.open_desk.proofs.Starts.{Found, refuses, passes, found}
 use Rattle.desk_start.proofs.StartLaws.{start-none, start-no, start-yes}
 
-nth-none : (k : ℕ) → nth {A = Pair} [] k ≡ none
-nth-none zero = nth-zero []
-nth-none (suc k) = nth-out [] (suc k) (omega arith)
-
 -- # Opening
 module _ (book ws : List ℕ) where
-  module _ (day : Day) (e : readBy deskTerms book ≡ accepted day) where
+  module _ (day : Day) (e : readBy orderingRule book ≡ accepted day) where
     open-own : (n p : ℕ) → Refuses (deskOpen book ws .answer) n p ↔ OpenTurned ws n p
     open-own = step (decLe deskWords (length ws))
       where
@@ -71,7 +62,7 @@ module _ (book ws : List ℕ) where
             (narrow short) only
 
   pub open-turned : (n p : ℕ) → Refuses (deskOpen book ws .answer) n p ↔ Turned Ordering book (λ day. OpenTurned ws) n p
-  open-turned = turned deskTerms book (λ day. OpenTurned ws) (deskOpen book ws .answer)
+  open-turned = turned orderingRule book (λ day. OpenTurned ws) (deskOpen book ws .answer)
       (λ n p e. ap (λ o. saidOpen (o .answer)) (open-no book ws n p e)) open-own
 
 -- # Calls on lent words: these are no desk that the call can work on, or they are, and the call is refused by a condition of its own.
@@ -118,38 +109,20 @@ module _ (ws : List ℕ) where
   g = planningLeft (running ws)
 
   pub here : plansHere ws ≡ true → CanPlan ws
-  unfolding plansHere
   here e =
-      let t = parts (isDesk ws) (canPlan (running ws)) (is-true _ e) in
-      let h = can-plan-says (running ws) .0 (true-is _ (t .1)) in
-      record { desk = desk-says ws .0 (true-is _ (t .0)); room = h .0; agree = h .1 }
+      let h = plans-here-says ws .0 e in
+      let c = can-plan-says (running ws) .0 (h .1) in
+      record { desk = h .0; room = c .0; agree = c .1 }
 
   pub here-is : CanPlan ws → plansHere ws ≡ true
-  unfolding plansHere
-  here-is c = rw (desk-says ws .1 (c .desk), can-plan-says (running ws) .1 (c .room, c .agree))
+  here-is c = plans-here-says ws .1 (c .desk, can-plan-says (running ws) .1 (c .room, c .agree))
 
   -- Where a row is left, what is planned is sound.
   pub sound : CanPlan ws → 0 < length (running ws .left) → Sound g
   sound c some = sound-left (running ws) some (left-ranged (c .desk)) (can-plan-says (running ws) .1 (c .room, c .agree))
 
-  pub list-away : plansHere ws ≡ false → (b : List ℕ) → deskListCall ws b ≡ gives (list-answer.Refused byRange 0) b
-  unfolding deskListCall
-  list-away e b = rw (e, deskListCall)
-
-  pub list-here : plansHere ws ≡ true → (b : List ℕ) → deskListCall ws b ≡ listOutcome g b
-  unfolding deskListCall
-  list-here e b = rw (e, deskListCall)
-
-  pub plan-away : plansHere ws ≡ false → (k : ℕ) (b : List ℕ) → deskPlanCall ws k b ≡ gives (order-answer.Refused byRange 0) b
-  unfolding deskPlanCall
-  plan-away e k b = rw (e, deskPlanCall)
-
-  pub plan-here : plansHere ws ≡ true → (k : ℕ) (b : List ℕ) → deskPlanCall ws k b ≡ planOutcome g k b
-  unfolding deskPlanCall
-  plan-here e k b = rw (e, deskPlanCall)
-
   pub list-own : CanPlan ws → (b : List ℕ) (n p : ℕ) → Refuses (deskList ws b .answer) n p ↔ ListTurned g b n p
-  list-own c b = rw (list-here (here-is c) b) (list-turned g b)
+  list-own c b = rw (list-here ws b (here-is c)) (list-turned g b)
 
   pub list-refused : (b : List ℕ) (n p : ℕ) → Refuses (deskList ws b .answer) n p ↔ DeskTurned (CanPlan ws) (ListTurned g b) n p
   list-refused b = step (plansHere ws) refl
@@ -157,32 +130,25 @@ module _ (ws : List ℕ) where
       step : (t : Bool) → plansHere ws ≡ t → (n p : ℕ) →
           Refuses (deskList ws b .answer) n p ↔ DeskTurned (CanPlan ws) (ListTurned g b) n p
       step false e = not-here (deskList ws b .answer) (CanPlan ws) (ListTurned g b) (λ c. false-is-true (sym e ∙ here-is c))
-          (ap (λ o. saidList (o .answer)) (list-away e b))
+          (ap (λ o. saidList (o .answer)) (list-away ws b e))
       step true e = is-here (deskList ws b .answer) (CanPlan ws) (ListTurned g b) (here e) (list-own (here e) b)
 
   -- With no row left, no plan has a number.
-  pub no-plans : running ws .left ≡ [] → g .plans ≡ []
-  unfolding plansFrom
-  no-plans e = ap (plansFrom (jobIn (running ws .rows)) (running ws .minute)) e
-
-  pub none-at : running ws .left ≡ [] → (k : ℕ) → nth (g .plans) k ≡ none
-  none-at e k = ap (λ (ps : List Pair). nth ps k) (no-plans e) ∙ nth-none k
-
   plan-none : running ws .left ≡ [] → (k : ℕ) (b : List ℕ) (n p : ℕ) →
       Refuses (saidOrder (planOutcome g k b .answer)) n p ↔ PlanTurned g k b n p
   plan-none e k b =
       says-no (saidOrder (planOutcome g k b .answer)) (PlanTurned g k b) byUnlisted (length (g .plans)) (omega arith)
-      (ap (λ o. saidOrder (o .answer)) (plan-unlisted g k b (none-at e k))) (table.unlisted unlisted) only
+      (ap (λ o. saidOrder (o .answer)) (plan-unlisted g k b (none-numbered (running ws) e k))) (table.unlisted unlisted) only
     where
       unlisted : ¬ ((1 ≤ k) × (k ≤ length (g .plans)))
-      unlisted h = omega (arith, h, ap (λ (ps : List Pair). length ps) (no-plans e))
+      unlisted h = omega (arith, h, ap (λ (ps : List Pair). length ps) (no-plans (running ws) e))
 
       only : (n p : ℕ) → PlanTurned g k b n p → (byUnlisted ≡ n) × (length (g .plans) ≡ p)
       only _ _ (table.unlisted f) = (refl, refl)
       only _ _ (table.narrow f h l) = absurd (unlisted (f, h))
 
   pub plan-own : CanPlan ws → (k : ℕ) (b : List ℕ) (n p : ℕ) → Refuses (deskPlan ws k b .answer) n p ↔ PlanTurned g k b n p
-  plan-own c k b = rw (plan-here (here-is c) k b) (step (running ws .left) refl)
+  plan-own c k b = rw (plan-here ws b k (here-is c)) (step (running ws .left) refl)
     where
       step : (is : List ℕ) → running ws .left ≡ is → (n p : ℕ) →
           Refuses (saidOrder (planOutcome g k b .answer)) n p ↔ PlanTurned g k b n p
@@ -196,5 +162,5 @@ module _ (ws : List ℕ) where
       step : (t : Bool) → plansHere ws ≡ t → (n p : ℕ) →
           Refuses (deskPlan ws k b .answer) n p ↔ DeskTurned (CanPlan ws) (PlanTurned g k b) n p
       step false e = not-here (deskPlan ws k b .answer) (CanPlan ws) (PlanTurned g k b) (λ c. false-is-true (sym e ∙ here-is c))
-          (ap (λ o. saidOrder (o .answer)) (plan-away e k b))
+          (ap (λ o. saidOrder (o .answer)) (plan-away ws b k e))
       step true e = is-here (deskPlan ws k b .answer) (CanPlan ws) (PlanTurned g k b) (here e) (plan-own (here e) k b)

@@ -25,14 +25,14 @@ job-held day zero = refl
 job-held day (suc i) = List·getD-map jobOf (day .rows) i noRow
 
 -- Nobody took a row yet.
-none-taken : (day : Day) (is : List ℕ) → notTaken day [] is ≡ is
+none-taken : (is : List ℕ) → notTaken [] is ≡ is
 unfolding notTaken stands
-none-taken day [] = refl
-none-taken day (i ∷ is) = ap (λ (js : List ℕ). i ∷ js) (none-taken day is)
+none-taken [] = refl
+none-taken (i ∷ is) = ap (λ (js : List ℕ). i ∷ js) (none-taken is)
 
 pub at-first : (day : Day) → standing day [] ≡ opened day
 unfolding minuteAfter worstSoFar
-at-first day = rw (none-taken day (rowNumbers day))
+at-first day = rw (none-taken (rowNumbers day))
 
 -- The larger of three signed numbers, taken either way.
 max-assoc : (a b c : ℤ) → maxZ a (maxZ b c) ≡ maxZ (maxZ a b) c
@@ -53,6 +53,40 @@ worst-more : (x : ℤ) (xs : List ℤ) (y : ℤ) → worstOf ((x ∷ xs) ++ (y �
 unfolding worstOf
 worst-more x [] y = refl
 worst-more x (z ∷ zs) y = ap (maxZ x) (worst-more z zs y) ∙ max-assoc x (worstOf (z ∷ zs)) y
+
+abbrev taken : List Start → List ℕ
+taken done = map (λ (s : Start). s .row) done
+
+-- Whether a row is taken, with one start more.
+taken-on : (j : ℕ) (done : List Start) (s : Start) → stands j (taken (done ++ (s ∷ []))) ≡ (stands j (taken done) || eqb j (s .row))
+taken-on j done s =
+    ap (stands j) (map-append (λ (s : Start). s .row) done (s ∷ [])) ∙ stands-behind j (taken done) (s .row)
+
+-- Rows that all stand behind the one more: it changes nothing among them.
+behind : (done : List Start) (s : Start) (k n : ℕ) → s .row < k →
+    notTaken (done ++ (s ∷ [])) (countFrom k n) ≡ notTaken done (countFrom k n)
+unfolding notTaken countFrom
+behind done s k zero h = refl
+behind done s k (suc n) h =
+    rw (taken-on k done s, ne-eqb k (s .row) (λ e. omega arith), or-false (stands k (taken done)), behind done s (suc k) n (omega arith))
+
+-- The rows left after one start more are those left before it without its row.
+left-on : (done : List Start) (s : Start) (k n : ℕ) →
+    notTaken (done ++ (s ∷ [])) (countFrom k n) ≡ without (s .row) (notTaken done (countFrom k n))
+unfolding notTaken countFrom without
+left-on done s k zero = refl
+left-on done s k (suc n) = step (stands k (taken done)) (eqb k (s .row)) refl refl (left-on done s (suc k) n)
+  where
+    step : (a b : Bool) → stands k (taken done) ≡ a → eqb k (s .row) ≡ b →
+        notTaken (done ++ (s ∷ [])) (countFrom (suc k) n) ≡ without (s .row) (notTaken done (countFrom (suc k) n)) →
+        notTaken (done ++ (s ∷ [])) (countFrom k (suc n)) ≡ without (s .row) (notTaken done (countFrom k (suc n)))
+    step true b e f later = rw (taken-on k done s, e) later
+    step false true e f later =
+        let same : k ≡ s .row = eqb-true k (s .row) f in
+        rw (taken-on k done s, e, f, eq-eqb (s .row) k (sym same)) (behind done s (suc k) n (omega arith))
+    step false false e f later =
+        let other : s .row ≡ k → ⊥ = λ g. eqb-false k (s .row) f (sym g) in
+        rw (taken-on k done s, e, f, ne-eqb (s .row) k other) (ap (λ (js : List ℕ). k ∷ js) later)
 
 module _ (day : Day) where
   worst-on : (done : List Start) (s : Start) →
@@ -84,40 +118,6 @@ module _ (day : Day) where
   unfolding minuteAfter
   minute-on t [] s = refl
   minute-on t (r ∷ rs) s = minute-on (endOfStart day r) rs s
-
-  abbrev taken : List Start → List ℕ
-  taken done = map (λ (s : Start). s .row) done
-
-  -- Whether a row is taken, with one start more.
-  taken-on : (j : ℕ) (done : List Start) (s : Start) → stands j (taken (done ++ (s ∷ []))) ≡ (stands j (taken done) || eqb j (s .row))
-  taken-on j done s =
-      ap (stands j) (map-append (λ (s : Start). s .row) done (s ∷ [])) ∙ stands-behind j (taken done) (s .row)
-
-  -- Rows that all stand behind the one more: it changes nothing among them.
-  behind : (done : List Start) (s : Start) (k n : ℕ) → s .row < k →
-      notTaken day (done ++ (s ∷ [])) (countFrom k n) ≡ notTaken day done (countFrom k n)
-  unfolding notTaken countFrom
-  behind done s k zero h = refl
-  behind done s k (suc n) h =
-      rw (taken-on k done s, ne-eqb k (s .row) (λ e. omega arith), or-false (stands k (taken done)), behind done s (suc k) n (omega arith))
-
-  -- The rows left after one start more are those left before it without its row.
-  left-on : (done : List Start) (s : Start) (k n : ℕ) →
-      notTaken day (done ++ (s ∷ [])) (countFrom k n) ≡ without (s .row) (notTaken day done (countFrom k n))
-  unfolding notTaken countFrom without
-  left-on done s k zero = refl
-  left-on done s k (suc n) = step (stands k (taken done)) (eqb k (s .row)) refl refl (left-on done s (suc k) n)
-    where
-      step : (a b : Bool) → stands k (taken done) ≡ a → eqb k (s .row) ≡ b →
-          notTaken day (done ++ (s ∷ [])) (countFrom (suc k) n) ≡ without (s .row) (notTaken day done (countFrom (suc k) n)) →
-          notTaken day (done ++ (s ∷ [])) (countFrom k (suc n)) ≡ without (s .row) (notTaken day done (countFrom k (suc n)))
-      step true b e f later = rw (taken-on k done s, e) later
-      step false true e f later =
-          let same : k ≡ s .row = eqb-true k (s .row) f in
-          rw (taken-on k done s, e, f, eq-eqb (s .row) k (sym same)) (behind done s (suc k) n (omega arith))
-      step false false e f later =
-          let other : s .row ≡ k → ⊥ = λ g. eqb-false k (s .row) f (sym g) in
-          rw (taken-on k done s, e, f, ne-eqb (s .row) k other) (ap (λ (js : List ℕ). k ∷ js) later)
 
   -- A desk after starts, and the row i started on it at the minute m.
   pub one-more : (done : List Start) (i m : ℕ) →

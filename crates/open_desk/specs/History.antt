@@ -69,6 +69,11 @@ abbrev pub asCall : Start → Call
 asCall s = starts (s .row) (s .minute)
 
 -- # What starts on a day's desk come to, told from the starts alone
+-- The rows left: those that no start has taken, in the sequence of the book.
+unfoldable pub notTaken : List Start → List ℕ → List ℕ
+notTaken done [] = []
+notTaken done (i ∷ is) = cond (stands i (map (λ (s : Start). s .row) done)) (notTaken done is) (i ∷ notTaken done is)
+
 module _ (day : Day) where
   -- A start's end is its minute plus the row's length; it is late by end minus due.
   abbrev pub endOfStart : Start → ℕ
@@ -81,11 +86,6 @@ module _ (day : Day) where
   unfoldable pub minuteAfter : ℕ → List Start → ℕ
   minuteAfter t [] = t
   minuteAfter t (s ∷ ss) = minuteAfter (endOfStart s) ss
-
-  -- The rows left: those that no start has taken, in the sequence of the book.
-  unfoldable pub notTaken : List Start → List ℕ → List ℕ
-  notTaken done [] = []
-  notTaken done (i ∷ is) = cond (stands i (map (λ (s : Start). s .row) done)) (notTaken done is) (i ∷ notTaken done is)
 
   -- The worst lateness so far: the largest of the starts' latenesses; none where none is done.
   unfoldable pub worstSoFar : List Start → Option ℤ

@@ -25,7 +25,7 @@ use Rattle.calls.specs.Lines.{listing, openLines}
 use Rattle.calls.specs.Days.{entry, sold, reading, printing, list, bound, plan, posting, rowWordsOf, rowPlaceOf, lengthOf}
 use Rattle.calls.specs.Days.{reads, prints, lists, judges, words, finds, takes, lasts, due, plans, order, turnedDown, line}
 use Rattle.calls.specs.Days.{Worked, _gets_, answerTo, Hold, hold}
-use Rattle.planner.specs.Promise.{orderingRule}
+use Rattle.readers.specs.Reads.{orderingRule}
 
 -- M1's book, with the due of row 2 open for M7 and M8, also with its rows swapped; M2 to M6; M9; M10; M13, also with its rows mixed.
 abbrev pub twoRows : ℕ → List ℕ

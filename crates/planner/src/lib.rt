@@ -4,57 +4,51 @@ ghost use mathlib.Core.Path.{_≡_};
 ghost use Rattle.row_calls.specs.Places.{placeCall, wordsCall};
 ghost use Rattle.outcomes.specs.Planning.{gives};
 ghost use Rattle.calls.specs.Calls.{listCall, boundCall, planCall, verdictCall};
-ghost use Rattle.planner.specs.Promise.{orderingRule};
+ghost use Rattle.readers.specs.Reads.{orderingRule};
 use outcomes::ListAnswer;
 use outcomes::OrderAnswer;
 use outcomes::VerdictAnswer;
 use readers::Terms;
 use row_calls::RowPlace;
-use schedule::Profile;
-
-// What these calls are told: to plan by the ordering rule.
-const ORDERING_RULE: Terms = Terms {
-    profile: Profile::Ordering,
-};
 
 // The list: for each plan that no order of the rows beats two words, end and worst lateness in two's complement, by rising end.
 pub fn list(book: &[u32], result: &mut [u32]) -> ListAnswer
     ensures { λ r. ⌜ gives r (now (result .exit)) ≡ listCall orderingRule (now (book .entry)) (now (result .entry)) ⌝ }
 {
-    calls::list(ORDERING_RULE, book, result)
+    calls::list(Terms::ORDERING_RULE, book, result)
 }
 
 // The order for a bound on lateness: its row numbers, and its own pair.
 pub fn order_for_bound(book: &[u32], bound: i32, result: &mut [u32]) -> OrderAnswer
     ensures { λ r. ⌜ gives r (now (result .exit)) ≡ boundCall orderingRule (now (book .entry)) bound (now (result .entry)) ⌝ }
 {
-    calls::order_for_bound(ORDERING_RULE, book, bound, result)
+    calls::order_for_bound(Terms::ORDERING_RULE, book, bound, result)
 }
 
 // The order of a listed plan by its number from 1: the order for the bound equal to its lateness.
 pub fn order_of_plan(book: &[u32], plan: u32, result: &mut [u32]) -> OrderAnswer
     ensures { λ r. ⌜ gives r (now (result .exit)) ≡ planCall orderingRule (now (book .entry)) plan (now (result .entry)) ⌝ }
 {
-    calls::order_of_plan(ORDERING_RULE, book, plan, result)
+    calls::order_of_plan(Terms::ORDERING_RULE, book, plan, result)
 }
 
 // The verdict on a posted order of row numbers: its own pair, and the first listed plan that beats it.
 pub fn verdict(book: &[u32], posting: &[u32]) -> VerdictAnswer
     ensures { λ r. ⌜ r ≡ verdictCall orderingRule (now (book .entry)) (now (posting .entry)) ⌝ }
 {
-    calls::verdict(ORDERING_RULE, book, posting)
+    calls::verdict(Terms::ORDERING_RULE, book, posting)
 }
 
 // The place of a row's number word, rows counted from 1, or the refusal.
 pub fn row_place(book: &[u32], row: u32) -> RowPlace
     ensures { λ r. ⌜ r ≡ placeCall orderingRule (now (book .entry)) row ⌝ }
 {
-    row_calls::row_place(ORDERING_RULE, book, row)
+    row_calls::row_place(Terms::ORDERING_RULE, book, row)
 }
 
 // The four words of a row, as the part of the caller's book that holds them; empty where the call is refused.
 pub fn row_words<'a>(book: &'a [u32], row: u32) -> &'a [u32]
     ensures { λ r. ⌜ now r ≡ wordsCall orderingRule (now (book .entry)) row ⌝ }
 {
-    row_calls::row_words(ORDERING_RULE, book, row)
+    row_calls::row_words(Terms::ORDERING_RULE, book, row)
 }

@@ -5,6 +5,7 @@ use mathlib.Core.Path.{_≡_}
 use mathlib.Core.List.{List}
 use lib.ListN.{length}
 use Rattle.schedule.specs.declared.Row.{Row}
+use Rattle.schedule.specs.declared.Profile.the-variants.{Ordering}
 use Rattle.schedule.specs.Rows.{Day}
 use Rattle.refusals.specs.declared.Tested.{Tested}
 use Rattle.refusals.specs.declared.Tested.the-variants.{Passed, Refused}
@@ -14,6 +15,10 @@ use Rattle.rows.specs.InColumns.{InColumns}
 use Rattle.readers.specs.declared.Terms.{Terms}
 use Rattle.readers.specs.declared.Given.{Given}
 use Rattle.readers.specs.Rules.{ruleTests, openRules}
+
+-- What a call by the ordering rule is told: no two rows of the book may disagree, and planning gives all its plans.
+abbrev pub orderingRule : Terms
+orderingRule = record { profile = Ordering }
 
 -- A test of the rows comes last, once they are read.
 unfoldable pub testedBy : (List Row → Tested) → Contents → Contents

@@ -21,6 +21,13 @@ pub struct Terms {
     pub profile: Profile,
 }
 
+impl Terms {
+    // To plan by the ordering rule.
+    pub const ORDERING_RULE: Terms = Terms {
+        profile: Profile::Ordering,
+    };
+}
+
 // What a book gives by the terms: how the tests came out; of an accepted book also the free minute, the count of rows, and the rows in
 // columns.
 pub struct Given {

@@ -3,9 +3,9 @@
 use Prim.Native.Nat.{ℕ, suc, _+_, _≤_, _<_}
 use native.Mathlib.Omega.{arith}
 use native.Mathlib.Numerals.{add-one}
-use mathlib.Core.Bool.{Bool, true, false, cond}
+use mathlib.Core.Bool.{true, false, cond}
 use mathlib.Core.Path.{_≡_, refl, sym, ap, _∙_}
-use mathlib.Core.List.{List, [], _∷_}
+use mathlib.Core.List.{List, []}
 use mathlib.Core.Option.{some}
 use lib.Dec.{ltb}
 use lib.ListN.{length, take, drop, getD}
@@ -14,7 +14,6 @@ use borrow.Author.Tests.{le-leb, lt-leb, lt-ltb, le-ltb}
 use Rattle.schedule.specs.Desk.{Pair}
 use Rattle.schedule.specs.Plans.{beats, firstBeating}
 use Rattle.schedule.proofs.Raised.{lowered-le, lowered-lt}
-use Rattle.refusals.proofs.Tests.{never}
 use Rattle.listing.specs.Fronts.{pairAt, pairsOf}
 use Rattle.results.specs.Results.{orZero}
 use Rattle.listing.proofs.Fronts.{first-length, first-at}
@@ -69,13 +68,3 @@ module _ (ends lates : List ℕ) (count : ℕ) (h : count ≤ length ends) (g : 
   first-no i k e =
       let d : drop i all ≡ [] = ap (λ (n : ℕ). drop n all) (k ∙ sym (first-length ends lates count h g)) ∙ drop-length all in
       sym (ap orZero (e ∙ ap (λ (ps : List Pair). firstBeating (i + 1) ps q) d))
-
--- A number from 1 on is never 0: so 0 says that there is none.
-beating-from : (k : ℕ) (ps : List Pair) (q : Pair) → 1 ≤ k → (n : ℕ) → firstBeating k ps q ≡ some n → 1 ≤ n
-unfolding firstBeating
-beating-from k [] q h n e = never (cc)
-beating-from k (p ∷ ps) q h n e = go (beats p q) e (beating-from (suc k) ps q (omega arith) n)
-  where
-    go : (b : Bool) → cond b (some k) (firstBeating (suc k) ps q) ≡ some n → (firstBeating (suc k) ps q ≡ some n → 1 ≤ n) → 1 ≤ n
-    go true e f = let g : k ≡ n = cc in omega arith
-    go false e f = f e

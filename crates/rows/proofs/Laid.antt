@@ -13,13 +13,13 @@ use Rattle.rows.specs.declared.Columns.{Columns}
 use Rattle.rows.specs.InColumns.{jobsOf, Within, InColumns}
 use Rattle.rows.proofs.Column.{Column, column-none, column-more}
 
-abbrev releaseOf : Row → ℕ
+abbrev pub releaseOf : Row → ℕ
 releaseOf r = r .release
 
-abbrev lengthOf : Row → ℕ
+abbrev pub lengthOf : Row → ℕ
 lengthOf r = r .length
 
-abbrev dueOf : Row → ℕ
+abbrev pub dueOf : Row → ℕ
 dueOf r = r .due
 
 -- The columns as the loop leaves them: the job of each row at its number, and nothing at every other place.

@@ -16,7 +16,7 @@ use Rattle.schedule.specs.declared.Profile.the-variants.{Ordering}
 use Rattle.schedule.specs.Rows.{job, allRows}
 use Rattle.schedule.specs.Cover.{Agreeing}
 use Rattle.schedule.specs.Columns.{at}
-use Rattle.schedule.proofs.Tests.{parts, is-true}
+use Rattle.schedule.proofs.Tests.{parts, is-true, true-is}
 use Rattle.schedule.proofs.Numbers.{length-count}
 use Rattle.refusals.specs.declared.Tested.{Tested}
 use Rattle.refusals.specs.declared.Tested.the-variants.{Passed, Refused}
@@ -24,8 +24,9 @@ use Rattle.pairs.proofs.Clashes.{passed-none, none-passes}
 use Rattle.readers.specs.Rules.{numberBy, ruleTests}
 use Rattle.readers.proofs.Rules.{clash-mutual, obeys, none-clashes}
 use Rattle.running.specs.Running.{Running, jobIn}
-use Rattle.running.proofs.Fits.{counted-at}
-use Rattle.rows_left.specs.Left.{plainLeft, plainRow, hasPassed, canPlan}
+use Rattle.running.specs.Words.{running, isDesk, IsDesk}
+use Rattle.running.proofs.Fits.{counted-at, desk-says}
+use Rattle.rows_left.specs.Left.{plainLeft, plainRow, hasPassed, canPlan, plansHere}
 use Rattle.rows_left.proofs.Gathering.{plain-job}
 
 has-passed : (o : Tested) → T (hasPassed o) → o ≡ Passed
@@ -89,3 +90,11 @@ module _ (d : Running) where
         (none-clashes Ordering (plainLeft d) (plain-agree (h .1))) in
         rw (le-leb _ latestDeskEnd (h .0), passes),
   )
+
+-- Words hold a desk whose rows left can be planned exactly if they hold a desk, and its rows left can.
+pub plans-here-says : (ws : List ℕ) → (plansHere ws ≡ true) ↔ (IsDesk ws × (canPlan (running ws) ≡ true))
+unfolding plansHere
+plans-here-says ws = (
+  λ e. let t = parts (isDesk ws) (canPlan (running ws)) (is-true _ e) in (desk-says ws .0 (true-is _ (t .0)), true-is _ (t .1)),
+  λ h. rw (desk-says ws .1 (h .0), h .1),
+)

@@ -38,6 +38,16 @@ held-some : (w : ℕ) → 1 ≤ w → worstHeld w ≡ some (lowered w)
 held-some zero h = let z : ⊥ = omega arith in absurd z
 held-some (suc w) h = refl
 
+-- The words after a start, whatever its end and worst lateness: as many as before, and three of them written.
+module _ (ws : List ℕ) (i end worst : ℕ) where
+  pub moved-length : length (movedWords ws i end worst) ≡ length ws
+  moved-length = length-set (set (set ws 1 end) 2 worst) (marks + i) 1 ∙ (length-set (set ws 1 end) 2 worst ∙ length-set ws 1 end)
+
+  pub moved-other : (place : ℕ) → ¬ (place ≡ 1) → ¬ (place ≡ 2) → ¬ (place ≡ marks + i) → at (movedWords ws i end worst) place ≡ at ws place
+  moved-other place a b c =
+      getD-set-other (set (set ws 1 end) 2 worst) (marks + i) place 1 0 c ∙
+      (getD-set-other (set ws 1 end) 2 place worst 0 b ∙ getD-set-other ws 1 place end 0 a)
+
 -- The ranges of the numbers of a start.
 abbrev pub StartFits : List ℕ → ℕ → ℕ → Type 0
 StartFits ws i m =
@@ -106,14 +116,6 @@ module _ (ws : List ℕ) (desk : IsDesk ws) (i m : ℕ) (passed : startTests (ru
   abbrev new : List ℕ
   new = movedWords ws i end w
 
-  places : length new ≡ length ws
-  places = length-set (set (set ws 1 end) 2 w) (marks + i) 1 ∙ (length-set (set ws 1 end) 2 w ∙ length-set ws 1 end)
-
-  other : (p : ℕ) → ¬ (p ≡ 1) → ¬ (p ≡ 2) → ¬ (p ≡ marks + i) → at new p ≡ at ws p
-  other p a b c =
-      getD-set-other (set (set ws 1 end) 2 w) (marks + i) p 1 0 c ∙
-      (getD-set-other (set ws 1 end) 2 p w 0 b ∙ getD-set-other ws 1 p end 0 a)
-
   minute-new : at new 1 ≡ end
   minute-new =
       getD-set-other (set (set ws 1 end) 2 w) (marks + i) 1 1 0 (λ e. omega arith) ∙
@@ -130,10 +132,10 @@ module _ (ws : List ℕ) (desk : IsDesk ws) (i m : ℕ) (passed : startTests (ru
       (omega (arith, desk .long, start-fits, length-set (set ws 1 end) 2 w, length-set ws 1 end))
 
   count-new : countIn new ≡ countIn ws
-  count-new = other 0 (λ e. omega arith) (λ e. omega arith) (λ e. omega arith)
+  count-new = moved-other ws i end w 0 (λ e. omega arith) (λ e. omega arith) (λ e. omega arith)
 
   marks-new : (k : ℕ) → ¬ (k ≡ i) → at new (marks + k) ≡ at ws (marks + k)
-  marks-new k n = other (marks + k) (λ e. omega arith) (λ e. omega arith) (λ e. n (omega arith))
+  marks-new k n = moved-other ws i end w (marks + k) (λ e. omega arith) (λ e. omega arith) (λ e. n (omega arith))
 
   marks-fit : (k : ℕ) → at ws (marks + k) ≤ 1 → at new (marks + k) ≤ 1
   marks-fit k h = step (ℕ-discrete k i)
@@ -143,7 +145,7 @@ module _ (ws : List ℕ) (desk : IsDesk ws) (i m : ℕ) (passed : startTests (ru
       step (no n) = omega (arith, marks-new k n)
 
   column-new : (p : ℕ) → 3 ≤ p → p ≤ marks → at new p ≡ at ws p
-  column-new p a b = other p (λ e. omega arith) (λ e. omega arith) (λ e. omega (arith, low))
+  column-new p a b = moved-other ws i end w p (λ e. omega arith) (λ e. omega arith) (λ e. omega (arith, low))
 
   job-new : (k : ℕ) → k ≤ mostRows → jobAt new k ≡ jobAt ws k
   job-new k h = λ x. record {
@@ -168,7 +170,7 @@ module _ (ws : List ℕ) (desk : IsDesk ws) (i m : ℕ) (passed : startTests (ru
 
   new-desk : IsDesk new
   new-desk = record {
-    long = omega (arith, desk .long, places);
+    long = omega (arith, desk .long, moved-length ws i end w);
     count = omega (arith, desk .count, count-new);
     early = omega (arith, minute-new, end-held, start-fits);
     worst = inr (omega (arith, worst-new, worst-raised, worst-fits (desk .worst)));
@@ -186,5 +188,5 @@ module _ (ws : List ℕ) (desk : IsDesk ws) (i m : ℕ) (passed : startTests (ru
   moved-held = (
     new-desk,
     λ x. record { rows = rows-new x; left = left-new x; minute = minute-new x; worst = worst-some x },
-    places,
+    moved-length ws i end w,
   )

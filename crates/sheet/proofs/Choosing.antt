@@ -30,7 +30,7 @@ use Rattle.calls.proofs.CallLaws.{list-refused, list-of}
 use Rattle.promises.specs.Vocabulary.{told, listed}
 use Rattle.promises.proofs.Kept.{listed-same}
 use Rattle.promises.proofs.Promise.{day-sound}
-use Rattle.planner.specs.Promise.{orderingRule}
+use Rattle.readers.specs.Reads.{orderingRule}
 use Rattle.planner.proofs.Promise.{lent-memory}
 use Rattle.input.specs.Input.{wordsIn, odd, Counted}
 use Rattle.lines.specs.LineBytes.{refusedLine}

@@ -34,7 +34,7 @@ use Rattle.calls.specs.Lines.{Line, listing, numbersOf, lineOf, printed}
 use Rattle.calls.proofs.CallLaws.{bound-of}
 use Rattle.promises.proofs.Listed.{nth-mem}
 use Rattle.promises.proofs.Promise.{day-sound}
-use Rattle.planner.specs.Promise.{orderingRule}
+use Rattle.readers.specs.Reads.{orderingRule}
 use Rattle.schedule.specs.Profiles.{plansBy}
 use Rattle.schedule.proofs.Numbers.{length-count}
 use Rattle.schedule.proofs.Orders.{perm-count}

@@ -11,7 +11,7 @@ use Rattle.outcomes.specs.declared.ListAnswer.the-variants.{Plans}
 use Rattle.outcomes.specs.Planning.{gives, nth}
 use Rattle.calls.specs.Calls.{listCall, boundCall}
 use Rattle.calls.specs.Lines.{Line, Printed, refusal, listing, printed}
-use Rattle.planner.specs.Promise.{orderingRule}
+use Rattle.readers.specs.Reads.{orderingRule}
 
 -- The bytes of a sheet.
 abbrev pub sheetBytes : ℕ

@@ -6,7 +6,7 @@ use mathlib.Core.List.{List}
 use lib.ListN.{length}
 use Rattle.refusals.specs.Refusals.{byCut}
 use Rattle.calls.specs.Lines.{Printed, refusal, printed}
-use Rattle.planner.specs.Promise.{orderingRule}
+use Rattle.readers.specs.Reads.{orderingRule}
 use Rattle.input.specs.Input.{wordsIn, odd}
 
 -- An input with odd bytes is cut at its count of whole words, before any other test. Of any other the first 1,028 words are the book.

@@ -10,7 +10,7 @@ ghost use Rattle.book.specs.Tables.{tableRows};
 ghost use Rattle.results.specs.Results.{signed};
 ghost use Rattle.calls.specs.Calls.{boundCall};
 ghost use Rattle.calls.specs.Lines.{printed};
-ghost use Rattle.planner.specs.Promise.{orderingRule};
+ghost use Rattle.readers.specs.Reads.{orderingRule};
 ghost use Rattle.lines.specs.LineBytes.{planLine};
 ghost use Rattle.lines.specs.Added.{Added};
 ghost use Rattle.input.specs.Input.{wordsIn, Counted};

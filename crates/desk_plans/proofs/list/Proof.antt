@@ -6,7 +6,8 @@ use native.Mathlib.Omega.{arith}
 use mathlib.Core.Path.{sym, _∙_}
 use denote.Ref.{now}
 use borrow.Author.Tests.{not-true, not-false}
-use Rattle.desk_plans.proofs.PlansLeft.{Ready, ready, list-refused, list-none, plannable, list-done}
+use Rattle.desk_plans.proofs.PlanCalls.{list-away}
+use Rattle.desk_plans.proofs.PlansLeft.{Ready, ready, list-none, plannable, list-done}
 use Rattle.desk_plans.proofs.list.Statement.{statement}
 use Rattle.desk_plans.proofs.list.Tie as tie
 
@@ -22,7 +23,7 @@ look-requires : tie.Need-look-requires
 look-requires c κs = search needs
 
 returns : tie.Need-returns
-returns c = list-refused _ _ (sym (c .before .look .ensures .told) ∙ not-true _ (c .if1 .taken))
+returns c = sym (list-away _ _ (sym (c .before .look .ensures .told) ∙ not-true _ (c .if1 .taken)))
 
 returns-2 : tie.Need-returns-2
 returns-2 c = list-none _ _ (ready _ _ (c .before .before .look .ensures) (not-false _ (c .before .if1 .left))) (c .if2 .taken) _

@@ -7,7 +7,8 @@ use mathlib.Core.Path.{sym, _∙_}
 use denote.Ref.{now}
 use borrow.Author.Tests.{not-true, not-false}
 use Rattle.outcomes.specs.Planning.{gives}
-use Rattle.desk_plans.proofs.PlansLeft.{Ready, ready, plan-refused, plan-none, plannable, plan-done}
+use Rattle.desk_plans.proofs.PlanCalls.{plan-away}
+use Rattle.desk_plans.proofs.PlansLeft.{Ready, ready, plan-none, plannable, plan-done}
 use Rattle.desk_plans.proofs.order_of_plan.Statement.{statement}
 use Rattle.desk_plans.proofs.order_of_plan.Tie as tie
 
@@ -23,7 +24,7 @@ look-requires : tie.Need-look-requires
 look-requires c κs = search needs
 
 returns : tie.Need-returns
-returns c = plan-refused _ _ (sym (c .before .look .ensures .told) ∙ not-true _ (c .if1 .taken)) _
+returns c = sym (plan-away _ _ _ (sym (c .before .look .ensures .told) ∙ not-true _ (c .if1 .taken)))
 
 returns-2 : tie.Need-returns-2
 returns-2 c = plan-none _ _ (ready _ _ (c .before .before .look .ensures) (not-false _ (c .before .if1 .left))) (c .if2 .taken) _ _

@@ -7,7 +7,7 @@ use mir.ValLaws.{toZ-ofZ}
 use mathlib.Core.Path.{ap, _∙_}
 use borrow.Author.Needs.{needs}
 use Rattle.calls.specs.Calls.{boundCall}
-use Rattle.planner.specs.Promise.{orderingRule}
+use Rattle.readers.specs.Reads.{orderingRule}
 use Rattle.calls.specs.Answers.{saidOrder}
 use Rattle.jelvaksna.proofs.Through.{through}
 use Rattle.jelvaksna.proofs.jelvaksna_order_for_bound.Statement.{statement}

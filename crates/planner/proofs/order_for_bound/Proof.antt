@@ -7,7 +7,7 @@ use mir.ValLaws.{toZ-ofZ}
 use mathlib.Core.Path.{ap, _∙_}
 use lib.IntN.{ℤ}
 use Rattle.calls.specs.Calls.{boundCall}
-use Rattle.planner.specs.Promise.{orderingRule}
+use Rattle.readers.specs.Reads.{orderingRule}
 use Rattle.planner.proofs.order_for_bound.Statement.{statement}
 use Rattle.planner.proofs.order_for_bound.Tie as tie
 

@@ -8,7 +8,7 @@ use lib.ListN.{getD}
 use Rattle.outcomes.specs.declared.OrderAnswer.{OrderAnswer}
 use Rattle.outcomes.specs.Planning.{Outcome}
 use Rattle.calls.specs.Calls.{boundCall}
-use Rattle.planner.specs.Promise.{orderingRule}
+use Rattle.readers.specs.Reads.{orderingRule}
 use Rattle.sheet.proofs.Standing.{signed-word}
 use native.Mathlib.Omega.{arith}
 use Rattle.sheet.proofs.order_numbers.Statement.{statement}

@@ -10,7 +10,7 @@ use lib.ListN.{length, take, drop, getD}
 use lib.Seq.{length-take-le}
 use Rattle.results.specs.Results.{signed}
 use Rattle.calls.specs.Calls.{boundCall}
-use Rattle.planner.specs.Promise.{orderingRule}
+use Rattle.readers.specs.Reads.{orderingRule}
 use Rattle.lines.specs.LineBytes.{planLine}
 use Rattle.lines.proofs.Adding.{same-added}
 use Rattle.sheet.proofs.Standing.{front-blank, lent-front, lent-room, lent-count}
