@@ -4,10 +4,10 @@
  *
  *     cc -std=c11 -Iinclude host/c/example.c target/staticlib/libjelvaksna.a
  */
+#include "expect.h"
 #include "jelvaksna.h"
 #include <inttypes.h>
 #include <stdio.h>
-#include <stdlib.h>
 #include <string.h>
 
 _Static_assert(offsetof(jelvaksna_answer, place) == 0, "layout");
@@ -15,16 +15,8 @@ _Static_assert(offsetof(jelvaksna_answer, count) == 8, "layout");
 _Static_assert(offsetof(jelvaksna_answer, refusal) == 16, "layout");
 _Static_assert(offsetof(jelvaksna_answer, end) == 20, "layout");
 _Static_assert(offsetof(jelvaksna_answer, late) == 24, "layout");
+_Static_assert(offsetof(jelvaksna_answer, minute) == 28, "layout");
 _Static_assert(sizeof(jelvaksna_answer) == 32, "layout");
-
-/* This program knows what to expect, so that it can serve as a test. */
-#define EXPECT(what)                                                            \
-    do {                                                                        \
-        if (!(what)) {                                                          \
-            fprintf(stderr, "%s:%d: not so: %s\n", __FILE__, __LINE__, #what);  \
-            exit(1);                                                            \
-        }                                                                       \
-    } while (0)
 
 static void print_order(const uint32_t *order, size_t rows) {
     for (size_t i = 0; i < rows; i++)

@@ -4,23 +4,11 @@
  *
  *     cc -std=c11 -Iinclude host/c/morning.c target/staticlib/libjelvaksna.a
  */
+#include "expect.h"
 #include "jelvaksna.h"
 #include <inttypes.h>
 #include <stdio.h>
-#include <stdlib.h>
 #include <string.h>
-
-_Static_assert(offsetof(jelvaksna_answer, minute) == 28, "layout");
-_Static_assert(sizeof(jelvaksna_answer) == 32, "layout");
-
-/* This program knows what to expect, so that it can serve as a test. */
-#define EXPECT(what)                                                            \
-    do {                                                                        \
-        if (!(what)) {                                                          \
-            fprintf(stderr, "%s:%d: not so: %s\n", __FILE__, __LINE__, #what);  \
-            exit(1);                                                            \
-        }                                                                       \
-    } while (0)
 
 /* The plans of the rows left, each with its order; how many there are. */
 static size_t print_plans(const uint32_t *desk, size_t left) {

@@ -314,6 +314,19 @@ impl Draft {
 const LAST_RELEASE: i64 = 10_000_000;
 const LAST_DUE: i64 = 20_000_000;
 
+/// The i-th of a series of long days, accepted ones: 49 rows to the most, of each make.
+pub fn long(rng: &mut Rng, i: u64) -> Draft {
+    let rows = match i % 3 {
+        0 => MAX_ROWS,
+        _ => rng.range(49, MAX_ROWS as i64) as usize,
+    };
+    match i % 4 {
+        0 => typical_day(rng, rows).varied(rng),
+        1 => contests(rng, rows).varied(rng),
+        _ => accepted(rng, rows),
+    }
+}
+
 /// A day of so many rows, of a shape chosen at random: crowded or idle, early or late, with ties,
 /// with rows of one length or of many, at the limits or far from them, with class rows or without,
 /// sorted or not.

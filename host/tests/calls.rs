@@ -49,16 +49,7 @@ fn middling_books() {
 fn long_books() {
     let count = 120 * books::times();
     books("long books", count, Effort::Few, |rng, i| {
-        let rows = match i % 3 {
-            0 => MAX_ROWS,
-            _ => rng.range(49, MAX_ROWS as i64) as usize,
-        };
-        match i % 4 {
-            0 => books::typical_day(rng, rows).varied(rng),
-            1 => books::contests(rng, rows).varied(rng),
-            _ => books::accepted(rng, rows),
-        }
-        .words()
+        books::long(rng, i).words()
     });
 }
 

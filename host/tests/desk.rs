@@ -391,17 +391,7 @@ fn middling_desks() {
 
 #[test]
 fn long_desks() {
-    let make = |rng: &mut Rng, i: u64| {
-        let rows = match i % 3 {
-            0 => MAX_ROWS,
-            _ => rng.range(49, MAX_ROWS as i64) as usize,
-        };
-        match i % 4 {
-            0 => books::typical_day(rng, rows).varied(rng),
-            1 => books::contests(rng, rows).varied(rng),
-            _ => books::accepted(rng, rows),
-        }
-    };
+    let make = books::long;
     let number = 40 * books::times();
     let counts = series("long desks", number, make, |_| 80);
     came_up(&counts, 40);

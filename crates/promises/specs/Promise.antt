@@ -1,5 +1,5 @@
 -- The three properties of the offered calls, for every book, bound, plan number, posting and buffer. `terms` is what the calls are told:
--- `orderingRule` (planner) or `firstCome` (first_come). The proofs are `lent-memory`, `definitions-hold` and `cover-holds`, in
+-- `orderingRule` (readers) or `firstCome` (first_come). The proofs are `lent-memory`, `definitions-hold` and `cover-holds`, in
 -- proofs/Promise.antt. That each function does what is said here of its call is its contract (planner/src, first_come/src).
 -- Rests on: Vocabulary, Table, the grammar of books, the schedule.
 use Prim.Native.Nat.{ℕ, _*_, _≤_, _<_}
