@@ -81,14 +81,15 @@ module _ (d : Running) where
       ((d .minute + longestLength * length (d .left) ≤ latestDeskEnd) × Agreeing (jobIn (d .rows)) (d .left))
   unfolding canPlan
   can-plan-says = (
-    λ e. let t = parts (leb (d .minute + longestLength * length (d .left)) latestDeskEnd) (hasPassed (ruleTests Ordering (plainLeft d)))
-        (is-true _ e) in
+    λ e. let t = parts (leb (d .minute + longestLength * length (plainLeft d)) latestDeskEnd)
+        (hasPassed (ruleTests Ordering (plainLeft d))) (is-true _ e) in
+        let room = leb→le (d .minute + longestLength * length (plainLeft d)) latestDeskEnd (t .0) in
         let none = passed-none (clash-mutual Ordering) (numberBy Ordering) (plainLeft d) (has-passed _ (t .1)) in
-        (leb→le _ latestDeskEnd (t .0), left-agree (obeys Ordering (plainLeft d) none)),
+        (omega (arith, room, plain-size), left-agree (obeys Ordering (plainLeft d) none)),
     λ h. let passes : ruleTests Ordering (plainLeft d) ≡ Passed =
         none-passes (clash-mutual Ordering) (numberBy Ordering) (plainLeft d)
         (none-clashes Ordering (plainLeft d) (plain-agree (h .1))) in
-        rw (le-leb _ latestDeskEnd (h .0), passes),
+        rw (le-leb (d .minute + longestLength * length (plainLeft d)) latestDeskEnd (omega (arith, h .0, plain-size)), passes),
   )
 
 -- Words hold a desk whose rows left can be planned exactly if they hold a desk, and its rows left can.

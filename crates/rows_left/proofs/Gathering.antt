@@ -1,15 +1,13 @@
 -- The rows left as they are gathered: each number has its row's job, in the limits; and they are the same rows, numbered anew.
 -- Assumes nothing.
-use Prim.Native.Nat.{ℕ, suc, _+_, _-_, _*_, _≤_, _<_}
+use Prim.Native.Nat.{ℕ, suc, _+_, _-_, _≤_, _<_}
 use native.Mathlib.Omega.{arith}
-use mathlib.Core.Bool.{Bool, _&&_}
+use mathlib.Core.Bool.{Bool}
 use mathlib.Core.Path.{_≡_, sym, ap, _∙_}
 use mathlib.Core.List.{List, map, List·Memᴰ}
-use lib.Dec.{leb}
 use lib.ListN.{length, getD, length-map, List·getD-map}
 use lib.Seq.{ext-getD}
-use Rattle.schedule.specs.Limits.{mostRows, rowPlaces, latestMinute, longestLength, latestDue, latestDeskEnd}
-use Rattle.schedule.specs.declared.Profile.the-variants.{Ordering}
+use Rattle.schedule.specs.Limits.{mostRows, rowPlaces, latestMinute, longestLength, latestDue}
 use Rattle.schedule.specs.Rows.{jobOf, job, countFrom}
 use Rattle.schedule.specs.Columns.{at, columns}
 use Rattle.schedule.specs.Filled.{Filled, from}
@@ -19,12 +17,11 @@ use Rattle.schedule.proofs.Matches.{Matches}
 use Rattle.schedule.proofs.RankPicks.{Renumbers}
 use Rattle.schedule.proofs.Filling.{counted-from-one}
 use Rattle.rows.specs.InColumns.{jobsOf, Within}
-use Rattle.readers.specs.Rules.{ruleTests}
 use Rattle.running.specs.Running.{Running, jobIn}
 use Rattle.running.specs.Words.{countIn, minuteIn, releases, lengths, dues, rowsIn, leftTo, running, IsDesk}
 use Rattle.running.proofs.Fits.{counted-at, row-held}
 use Rattle.rows_left.specs.declared.Left.{Left}
-use Rattle.rows_left.specs.Left.{plainLeft, plainRow, hasPassed, canPlan}
+use Rattle.rows_left.specs.Left.{plainLeft, plainRow, canPlan}
 use Rattle.rows_left.specs.Gathered.{leftAt, wordLeft, FitTested, Gathered}
 use Rattle.rows_left.proofs.LeftRows.{left-rising, left-mem}
 
@@ -98,10 +95,7 @@ module _ (ws : List ℕ) (left : Left) (g : Gathered ws left) where
   -- What is tested of the columns is tested of the rows left.
   pub can-plan-told : (b : Bool) → FitTested (minuteIn ws) (jobsOf (left .columns)) (left .count) b → b ≡ canPlan (running ws)
   unfolding canPlan
-  can-plan-told b t =
-      t (plainLeft (running ws)) plain-size plain-jobs ∙
-      ap (λ (n : ℕ). leb (minuteIn ws + longestLength * n) latestDeskEnd && hasPassed (ruleTests Ordering (plainLeft (running ws))))
-      (g .counted)
+  can-plan-told b t = t (plainLeft (running ws)) plain-size plain-jobs
 
   -- The rows left are those of the numbers 1 to n, in their order.
   left-mapped : leftTo ws (countIn ws) ≡ map row (countFrom 1 (left .count))

@@ -1,22 +1,19 @@
 -- The rows left of a lent desk, numbered anew from 1 on as they stand, and in columns: what `look` gives. Only contracts cite it.
 -- Rests on: Left, the words of a desk, tables filled place by place.
-use Prim.Native.Nat.{ℕ, _+_, _*_, _≤_}
-use mathlib.Core.Bool.{Bool, true, _&&_}
+use Prim.Native.Nat.{ℕ, _+_, _≤_}
+use mathlib.Core.Bool.{Bool, true}
 use mathlib.Core.Path.{_≡_}
 use mathlib.Core.List.{List}
-use lib.Dec.{leb}
 use lib.ListN.{length, getD}
 use Rattle.theory.specs.Jobs.{Job}
-use Rattle.schedule.specs.Limits.{rowPlaces, longestLength, latestDeskEnd}
+use Rattle.schedule.specs.Limits.{rowPlaces}
 use Rattle.schedule.specs.declared.Row.{Row}
-use Rattle.schedule.specs.declared.Profile.the-variants.{Ordering}
 use Rattle.schedule.specs.Rows.{job}
 use Rattle.schedule.specs.Columns.{at}
 use Rattle.schedule.specs.Filled.{Filled, from}
-use Rattle.readers.specs.Rules.{ruleTests}
 use Rattle.running.specs.Words.{countIn, releases, lengths, dues, leftTo}
 use Rattle.rows_left.specs.declared.Left.{Left}
-use Rattle.rows_left.specs.Left.{hasPassed, plansHere}
+use Rattle.rows_left.specs.Left.{fitFrom, plansHere}
 
 -- The rows left, counted from 0; and what rows of these numbers, which stand from place 1 on, have in a column of the desk.
 abbrev pub leftAt : List ℕ → ℕ → ℕ
@@ -28,7 +25,7 @@ wordLeft ws before rows k = at ws (before + at rows (k + 1))
 -- What the test of rows in columns answers, from a minute on: that of any rows that have these jobs.
 abbrev pub FitTested : (minute : ℕ) → (ℕ → Job) → (count : ℕ) → Bool → Type 0
 FitTested minute jobs count b = (rows : List Row) → length rows ≡ count → ((i : ℕ) → 1 ≤ i → i ≤ count → jobs i ≡ job rows i) →
-    b ≡ (leb (minute + longestLength * count) latestDeskEnd && hasPassed (ruleTests Ordering rows))
+    b ≡ fitFrom minute rows
 
 -- Place k from 1 on has the k-th of the rows left, in `rows` its number and in the columns what the desk has of it.
 pub record Gathered (ws : List ℕ) (left : Left) : Type 0 where

@@ -28,9 +28,13 @@ abbrev pub hasPassed : Tested → Bool
 hasPassed Passed = true
 hasPassed (Refused n p) = false
 
--- No two rows left disagree, and the desk's minute leaves room for them: they end by 27,680,000.
+-- Rows fit to be planned from a minute on: it leaves room for them, so that they end by 27,680,000, and no two of them disagree.
+abbrev pub fitFrom : (minute : ℕ) → List Row → Bool
+fitFrom t rows = leb (t + longestLength * length rows) latestDeskEnd && hasPassed (ruleTests Ordering rows)
+
+-- The rows left can be planned from the desk's minute on.
 unfoldable pub canPlan : Running → Bool
-canPlan d = leb (d .minute + longestLength * length (d .left)) latestDeskEnd && hasPassed (ruleTests Ordering (plainLeft d))
+canPlan d = fitFrom (d .minute) (plainLeft d)
 
 -- The words hold a desk whose rows left can be planned.
 unfoldable pub plansHere : List ℕ → Bool

@@ -30,13 +30,13 @@ returns : tie.Need-returns
 returns c =
     λ rows n same.
     let told = sym (c .before .before .rule-tests .ensures rows n same) ∙ c .enum-told .given .1 in
-    rw (told, and-true)
+    rw (n, told, and-true)
 
 returns-2 : tie.Need-returns-2
 returns-2 c =
     λ rows n same.
     let told = sym (c .before .before .rule-tests .ensures rows n same) ∙ c .enum-told2 .given .1 in
-    rw (told, and-false)
+    rw (n, told, and-false)
 
 pub can-plan-spec : {M : Type 1} → statement M
 can-plan-spec =
