@@ -61,8 +61,8 @@ answerTo terms (list b buffer) = lists (listCall terms b buffer)
 answerTo terms (bound b y buffer) = orders (boundCall terms b y buffer)
 answerTo terms (plan b k buffer) = orders (planCall terms b k buffer)
 answerTo terms (posting b order) = judges (verdictCall terms b order)
-answerTo terms (rowWordsOf b k) = words (wordsCall terms b k)
-answerTo terms (rowPlaceOf b k) = finds (placeCall terms b k)
+answerTo terms (rowWordsOf b k) = words (wordsCall (terms .profile) b k)
+answerTo terms (rowPlaceOf b k) = finds (placeCall (terms .profile) b k)
 answerTo terms (lengthOf pages pace) = takes (lengthFor pages pace)
 
 -- A question of the table with its answer.

@@ -11,7 +11,7 @@ use Rattle.schedule.specs.Desk.{Pair}
 use Rattle.book.specs.Rows.{refused, accepted}
 use Rattle.readers.specs.declared.Terms.{Terms}
 use Rattle.readers.specs.Reads.{readBy}
-use Rattle.outcomes.specs.Planning.{planningOf}
+use Rattle.calls.specs.Calls.{planned}
 
 -- `plan K end E late L order N N ..`: K is the line's place among its like, from 1.
 pub record Line : Type 0 where
@@ -32,13 +32,13 @@ numbersOf rows (some order) = map (λ i. row rows i .number) order
 module _ (terms : Terms) where
   unfoldable pub lineOf : Day → Pair → Line
   lineOf day p =
-      let order = planningOf (terms .profile) day .orders (p .late) in
+      let order = planned terms day .orders (p .late) in
       record { end = p .end; late = p .late; numbers = numbersOf (day .rows) order }
 
   unfoldable pub printed : List ℕ → Printed
   printed book = elim (readBy terms book) [
     | refused n p ↦ refusal n p
-    | accepted day ↦ listing (length (day .rows)) (map (lineOf day) (planningOf (terms .profile) day .plans))
+    | accepted day ↦ listing (length (day .rows)) (map (lineOf day) (planned terms day .plans))
   ]
 
 -- Opens every definition of this file: name it on an `unfolding` line where all is to be computed.

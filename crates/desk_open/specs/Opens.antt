@@ -12,7 +12,7 @@ use Rattle.book.specs.Rows.{refused, accepted}
 use Rattle.readers.specs.Reads.{orderingRule, readBy}
 use Rattle.results.specs.Results.{written}
 use Rattle.outcomes.specs.Planning.{Outcome, gives}
-use Rattle.running.specs.Words.{deskWords, releases, lengths, dues}
+use Rattle.running.specs.Words.{deskWords, releases, times, dues}
 use Rattle.desk_open.specs.declared.OpenAnswer.{OpenAnswer}
 use Rattle.desk_open.specs.declared.OpenAnswer.the-variants as open-answer
 
@@ -20,23 +20,23 @@ use Rattle.desk_open.specs.declared.OpenAnswer.the-variants as open-answ
 unfoldable pub put : (place : ℕ) → List ℕ → List ℕ → List ℕ
 put p xs ws = take p ws ++ xs ++ drop (p + length xs) ws
 
--- The words of a desk as a day opens it: the count of rows and the free minute; release, length and due of each row; all others 0. So no
--- row is done, and there is no worst lateness yet.
-unfoldable pub openedWords : Day → List ℕ
-openedWords day =
+-- The words of a desk as a day opens it: the count of rows, the free minute and the opening; release, time at the desk and due of each row;
+-- all others 0. So no row is done, and there is no worst lateness yet.
+unfoldable pub openedWords : (opening : ℕ) → Day → List ℕ
+openedWords opening day =
     put (releases + 1) (map (λ (r : Row). r .release) (day .rows))
-    (put (lengths + 1) (map (λ (r : Row). r .length) (day .rows))
+    (put (times + 1) (map (λ (r : Row). opening + r .length) (day .rows))
     (put (dues + 1) (map (λ (r : Row). r .due) (day .rows))
-    (put 0 (length (day .rows) ∷ day .free ∷ []) (replicate deskWords 0))))
+    (put 0 (length (day .rows) ∷ day .free ∷ 0 ∷ opening ∷ []) (replicate deskWords 0))))
 
--- The call, by the ordering rule: the book's refusals, then a run that is too short; otherwise the count of rows and the desk's minute, and
--- the words of the desk. Words of a longer run hold what they held.
-unfoldable pub openCall : (book desk : List ℕ) → Outcome OpenAnswer
-openCall book ws = elim (readBy orderingRule book) [
+-- The call, by the ordering rule: the refusals of the opening and the book, then a run that is too short; otherwise the count of rows and the
+-- desk's minute, and the words of the desk. Words of a longer run hold what they held.
+unfoldable pub openCall : (opening : ℕ) → (book desk : List ℕ) → Outcome OpenAnswer
+openCall opening book ws = elim (readBy (orderingRule opening) book) [
   | refused n p ↦ gives (open-answer.Refused n p) ws
   | accepted day ↦ elim (ltb (length ws) deskWords) [
     | true ↦ gives (open-answer.Refused byNarrow 0) ws
-    | false ↦ gives (open-answer.Opened (length (day .rows)) (day .free)) (written (openedWords day) ws)
+    | false ↦ gives (open-answer.Opened (length (day .rows)) (day .free)) (written (openedWords opening day) ws)
   ]
 ]
 

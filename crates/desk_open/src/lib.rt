@@ -5,7 +5,7 @@ ghost use mathlib.Core.List.{List, [], _∷_};
 ghost use lib.ListN.{length, take, drop, replicate};
 ghost use Rattle.schedule.specs.Limits.{mostRows, rowPlaces};
 ghost use Rattle.schedule.specs.declared.Row.{Row};
-ghost use Rattle.schedule.specs.Rows.{job};
+ghost use Rattle.schedule.specs.Rows.{job, withOpening};
 ghost use Rattle.schedule.specs.Columns.{columns};
 ghost use Rattle.results.specs.Results.{written};
 ghost use Rattle.running.specs.Words.{deskWords};
@@ -23,9 +23,9 @@ pub enum OpenAnswer {
 }
 
 // The head of a desk that is opened, and no number yet in any other word.
-fn put_head(desk: &mut [u32], count: u32, minute: u32)
+fn put_head(desk: &mut [u32], count: u32, minute: u32, opening: u32)
     requires { ⌜ deskWords ≤ length (now desk) ⌝ }
-    ensures { λ _. ⌜ now (desk .exit) ≡ written (put 0 (count ∷ minute ∷ []) (replicate deskWords 0)) (now (desk .entry)) ⌝ }
+    ensures { λ _. ⌜ now (desk .exit) ≡ written (put 0 (count ∷ minute ∷ 0 ∷ opening ∷ []) (replicate deskWords 0)) (now (desk .entry)) ⌝ }
 {
     let mut k: usize = 0;
     while k < Layout::WORDS {
@@ -34,6 +34,7 @@ fn put_head(desk: &mut [u32], count: u32, minute: u32)
     }
     desk[Layout::COUNT] = count;
     desk[Layout::MINUTE] = minute;
+    desk[Layout::OPENING] = opening;
 }
 
 // The first n rows of a column, into the column of the desk that begins after a place.
@@ -49,9 +50,10 @@ fn put_column(desk: &mut [u32], before: usize, column: &[u32; Desk::PLACES], n: 
     }
 }
 
-// The words of a desk that a day opens: the head, then one column after another. The day has any rows that have these jobs.
+// The words of a desk that a day opens: the head, then one column after another. The day has any rows of which planning sees these jobs.
 fn put_day<'a>(
     desk: &mut [u32],
+    opening: u32,
     free: u32,
     release: &'a [u32; Desk::PLACES],
     minutes: &'a [u32; Desk::PLACES],
@@ -62,20 +64,20 @@ fn put_day<'a>(
         (length (now release) ≡ rowPlaces) × (length (now minutes) ≡ rowPlaces) × (length (now due) ≡ rowPlaces) ⌝ }
     ensures { λ _. ⌜ ((rows : List Row) → length rows ≡ n →
         ((i : ℕ) → 1 ≤ i → i ≤ n →
-        columns (now (release .entry)) (now (minutes .entry)) (now (due .entry)) i ≡ job rows i) →
-        now (desk .exit) ≡ written (openedWords (record { free = free; rows = rows })) (now (desk .entry))) ⌝ }
+        columns (now (release .entry)) (now (minutes .entry)) (now (due .entry)) i ≡ withOpening opening (job rows i)) →
+        now (desk .exit) ≡ written (openedWords opening (record { free = free; rows = rows })) (now (desk .entry))) ⌝ }
 {
-    put_head(desk, n as u32, free);
+    put_head(desk, n as u32, free, opening);
     put_column(desk, Layout::DUES, due, n);
-    put_column(desk, Layout::LENGTHS, minutes, n);
+    put_column(desk, Layout::TIMES, minutes, n);
     put_column(desk, Layout::RELEASES, release, n);
 }
 
 // Opens a desk with a book.
-pub fn open(book: &[u32], desk: &mut [u32]) -> OpenAnswer
-    ensures { λ r. ⌜ gives r (now (desk .exit)) ≡ openCall (now (book .entry)) (now (desk .entry)) ⌝ }
+pub fn open(opening: u32, book: &[u32], desk: &mut [u32]) -> OpenAnswer
+    ensures { λ r. ⌜ gives r (now (desk .exit)) ≡ openCall opening (now (book .entry)) (now (desk .entry)) ⌝ }
 {
-    let given = readers::read(Terms::ORDERING_RULE, book);
+    let given = readers::read(Terms::ordering_rule(opening), book);
     let outcome = given.outcome;
     if let Tested::Refused(number, place) = outcome {
         return OpenAnswer::Refused(number, place);
@@ -86,6 +88,7 @@ pub fn open(book: &[u32], desk: &mut [u32]) -> OpenAnswer
     let count = given.count;
     put_day(
         desk,
+        opening,
         given.free,
         &given.columns.release,
         &given.columns.length,

@@ -62,7 +62,7 @@ pub fn start(desk: &mut [u32], row: u32, minute: u32) -> StartAnswer
     };
     let done = free.take(
         desk[Layout::RELEASES + i],
-        desk[Layout::LENGTHS + i],
+        desk[Layout::TIMES + i],
         desk[Layout::DUES + i],
     );
     store(desk, i, done.minute, done.worst);

@@ -1,10 +1,11 @@
 // First come, first due: the calls offered to a bureau in whose books no two rows cross. Each is lent a book, has no `requires`, and its
 // contract gives its whole outcome: the answer, and every word of the result buffer at exit.
 ghost use mathlib.Core.Path.{_≡_};
+ghost use Rattle.schedule.specs.declared.Profile.the-variants.{FirstCome};
 ghost use Rattle.row_calls.specs.Places.{placeCall, wordsCall};
 ghost use Rattle.outcomes.specs.Planning.{gives};
 ghost use Rattle.calls.specs.Calls.{listCall, boundCall, planCall, verdictCall};
-ghost use Rattle.first_come.specs.Promise.{firstCome};
+ghost use Rattle.readers.specs.Reads.{firstCome};
 use outcomes::ListAnswer;
 use outcomes::OrderAnswer;
 use outcomes::VerdictAnswer;
@@ -12,49 +13,44 @@ use readers::Terms;
 use row_calls::RowPlace;
 use schedule::Profile;
 
-// What these calls are told: to plan first come, first due.
-const FIRST_COME: Terms = Terms {
-    profile: Profile::FirstCome,
-};
-
 // The list: the one plan, its end and its worst lateness in two's complement.
-pub fn list(book: &[u32], result: &mut [u32]) -> ListAnswer
-    ensures { λ r. ⌜ gives r (now (result .exit)) ≡ listCall firstCome (now (book .entry)) (now (result .entry)) ⌝ }
+pub fn list(opening: u32, book: &[u32], result: &mut [u32]) -> ListAnswer
+    ensures { λ r. ⌜ gives r (now (result .exit)) ≡ listCall (firstCome opening) (now (book .entry)) (now (result .entry)) ⌝ }
 {
-    calls::list(FIRST_COME, book, result)
+    calls::list(Terms::first_come(opening), book, result)
 }
 
 // The order for a bound on lateness: the one plan's, if its worst lateness is at most the bound.
-pub fn order_for_bound(book: &[u32], bound: i32, result: &mut [u32]) -> OrderAnswer
-    ensures { λ r. ⌜ gives r (now (result .exit)) ≡ boundCall firstCome (now (book .entry)) bound (now (result .entry)) ⌝ }
+pub fn order_for_bound(opening: u32, book: &[u32], bound: i32, result: &mut [u32]) -> OrderAnswer
+    ensures { λ r. ⌜ gives r (now (result .exit)) ≡ boundCall (firstCome opening) (now (book .entry)) bound (now (result .entry)) ⌝ }
 {
-    calls::order_for_bound(FIRST_COME, book, bound, result)
+    calls::order_for_bound(Terms::first_come(opening), book, bound, result)
 }
 
 // The order of a listed plan by its number: 1 is the one plan's.
-pub fn order_of_plan(book: &[u32], plan: u32, result: &mut [u32]) -> OrderAnswer
-    ensures { λ r. ⌜ gives r (now (result .exit)) ≡ planCall firstCome (now (book .entry)) plan (now (result .entry)) ⌝ }
+pub fn order_of_plan(opening: u32, book: &[u32], plan: u32, result: &mut [u32]) -> OrderAnswer
+    ensures { λ r. ⌜ gives r (now (result .exit)) ≡ planCall (firstCome opening) (now (book .entry)) plan (now (result .entry)) ⌝ }
 {
-    calls::order_of_plan(FIRST_COME, book, plan, result)
+    calls::order_of_plan(Terms::first_come(opening), book, plan, result)
 }
 
 // The verdict on a posted order of row numbers: its own pair, and the one plan where it beats the posting.
-pub fn verdict(book: &[u32], posting: &[u32]) -> VerdictAnswer
-    ensures { λ r. ⌜ r ≡ verdictCall firstCome (now (book .entry)) (now (posting .entry)) ⌝ }
+pub fn verdict(opening: u32, book: &[u32], posting: &[u32]) -> VerdictAnswer
+    ensures { λ r. ⌜ r ≡ verdictCall (firstCome opening) (now (book .entry)) (now (posting .entry)) ⌝ }
 {
-    calls::verdict(FIRST_COME, book, posting)
+    calls::verdict(Terms::first_come(opening), book, posting)
 }
 
 // The place of a row's number word, rows counted from 1, or the refusal.
 pub fn row_place(book: &[u32], row: u32) -> RowPlace
-    ensures { λ r. ⌜ r ≡ placeCall firstCome (now (book .entry)) row ⌝ }
+    ensures { λ r. ⌜ r ≡ placeCall FirstCome (now (book .entry)) row ⌝ }
 {
-    row_calls::row_place(FIRST_COME, book, row)
+    row_calls::row_place(Profile::FirstCome, book, row)
 }
 
 // The four words of a row, as the part of the caller's book that holds them; empty where the call is refused.
 pub fn row_words<'a>(book: &'a [u32], row: u32) -> &'a [u32]
-    ensures { λ r. ⌜ now r ≡ wordsCall firstCome (now (book .entry)) row ⌝ }
+    ensures { λ r. ⌜ now r ≡ wordsCall FirstCome (now (book .entry)) row ⌝ }
 {
-    row_calls::row_words(FIRST_COME, book, row)
+    row_calls::row_words(Profile::FirstCome, book, row)
 }

@@ -2,6 +2,7 @@
 // include/jelvaksna.h. A slice crosses as a pointer and a length in words. No call has a `requires`, and its contract gives its whole
 // outcome.
 ghost use mathlib.Core.Path.{_≡_};
+ghost use Rattle.schedule.specs.declared.Profile.the-variants.{Ordering, FirstCome};
 ghost use Rattle.calls.specs.Answers.{saidList, saidOrder, saidVerdict, saidPlace};
 ghost use Rattle.calls.specs.Calls.{listCall, boundCall, planCall, verdictCall};
 ghost use Rattle.row_calls.specs.Places.{placeCall};
@@ -9,50 +10,59 @@ ghost use Rattle.desk_open.specs.Opens.{openCall};
 ghost use Rattle.desk_start.specs.Starts.{startCall};
 ghost use Rattle.desk_plans.specs.Plans.{deskListCall, deskPlanCall};
 ghost use Rattle.open_desk.specs.Answers.{saidOpen, saidStart};
-ghost use Rattle.readers.specs.Reads.{orderingRule};
-ghost use Rattle.first_come.specs.Promise.{firstCome};
+ghost use Rattle.readers.specs.Reads.{orderingRule, firstCome};
 ghost use Rattle.answers.specs.Boundary.{answerOf};
 use answers::Answer;
 
 // The list: two words for each plan, end and worst lateness in two's complement, by rising end.
 #[no_mangle]
-pub extern "C" fn jelvaksna_list(book: &[u32], result: &mut [u32]) -> Answer
-    ensures { λ r. ⌜ r ≡ answerOf (saidList (listCall orderingRule (now (book .entry)) (now (result .entry)) .answer)) ⌝ }
-    ensures { λ _. ⌜ now (result .exit) ≡ listCall orderingRule (now (book .entry)) (now (result .entry)) .buffer ⌝ }
+pub extern "C" fn jelvaksna_list(opening: u32, book: &[u32], result: &mut [u32]) -> Answer
+    ensures { λ r. ⌜ r ≡ answerOf (saidList (listCall (orderingRule opening) (now (book .entry)) (now (result .entry)) .answer)) ⌝ }
+    ensures { λ _. ⌜ now (result .exit) ≡ listCall (orderingRule opening) (now (book .entry)) (now (result .entry)) .buffer ⌝ }
 {
-    answers::of_list(planner::list(book, result))
+    answers::of_list(planner::list(opening, book, result))
 }
 
 // The order for a bound on lateness: its row numbers, and its own pair.
 #[no_mangle]
-pub extern "C" fn jelvaksna_order_for_bound(book: &[u32], bound: i32, result: &mut [u32]) -> Answer
-    ensures { λ r. ⌜ r ≡ answerOf (saidOrder (boundCall orderingRule (now (book .entry)) bound (now (result .entry)) .answer)) ⌝ }
-    ensures { λ _. ⌜ now (result .exit) ≡ boundCall orderingRule (now (book .entry)) bound (now (result .entry)) .buffer ⌝ }
+pub extern "C" fn jelvaksna_order_for_bound(
+    opening: u32,
+    book: &[u32],
+    bound: i32,
+    result: &mut [u32],
+) -> Answer
+    ensures { λ r. ⌜ r ≡ answerOf (saidOrder (boundCall (orderingRule opening) (now (book .entry)) bound (now (result .entry)) .answer)) ⌝ }
+    ensures { λ _. ⌜ now (result .exit) ≡ boundCall (orderingRule opening) (now (book .entry)) bound (now (result .entry)) .buffer ⌝ }
 {
-    answers::of_order(planner::order_for_bound(book, bound, result))
+    answers::of_order(planner::order_for_bound(opening, book, bound, result))
 }
 
 // The order of a listed plan by its number from 1.
 #[no_mangle]
-pub extern "C" fn jelvaksna_order_of_plan(book: &[u32], plan: u32, result: &mut [u32]) -> Answer
-    ensures { λ r. ⌜ r ≡ answerOf (saidOrder (planCall orderingRule (now (book .entry)) plan (now (result .entry)) .answer)) ⌝ }
-    ensures { λ _. ⌜ now (result .exit) ≡ planCall orderingRule (now (book .entry)) plan (now (result .entry)) .buffer ⌝ }
+pub extern "C" fn jelvaksna_order_of_plan(
+    opening: u32,
+    book: &[u32],
+    plan: u32,
+    result: &mut [u32],
+) -> Answer
+    ensures { λ r. ⌜ r ≡ answerOf (saidOrder (planCall (orderingRule opening) (now (book .entry)) plan (now (result .entry)) .answer)) ⌝ }
+    ensures { λ _. ⌜ now (result .exit) ≡ planCall (orderingRule opening) (now (book .entry)) plan (now (result .entry)) .buffer ⌝ }
 {
-    answers::of_order(planner::order_of_plan(book, plan, result))
+    answers::of_order(planner::order_of_plan(opening, book, plan, result))
 }
 
 // The verdict on a posted order of row numbers.
 #[no_mangle]
-pub extern "C" fn jelvaksna_verdict(book: &[u32], posting: &[u32]) -> Answer
-    ensures { λ r. ⌜ r ≡ answerOf (saidVerdict (verdictCall orderingRule (now (book .entry)) (now (posting .entry)))) ⌝ }
+pub extern "C" fn jelvaksna_verdict(opening: u32, book: &[u32], posting: &[u32]) -> Answer
+    ensures { λ r. ⌜ r ≡ answerOf (saidVerdict (verdictCall (orderingRule opening) (now (book .entry)) (now (posting .entry)))) ⌝ }
 {
-    answers::of_verdict(planner::verdict(book, posting))
+    answers::of_verdict(planner::verdict(opening, book, posting))
 }
 
 // The place of a row's number word; the row's four words stand from there on.
 #[no_mangle]
 pub extern "C" fn jelvaksna_row_place(book: &[u32], row: u32) -> Answer
-    ensures { λ r. ⌜ r ≡ answerOf (saidPlace (placeCall orderingRule (now (book .entry)) row)) ⌝ }
+    ensures { λ r. ⌜ r ≡ answerOf (saidPlace (placeCall Ordering (now (book .entry)) row)) ⌝ }
 {
     answers::of_place(planner::row_place(book, row))
 }
@@ -61,62 +71,72 @@ pub extern "C" fn jelvaksna_row_place(book: &[u32], row: u32) -> Answer
 
 // The list: the one plan.
 #[no_mangle]
-pub extern "C" fn jelvaksna_first_come_list(book: &[u32], result: &mut [u32]) -> Answer
-    ensures { λ r. ⌜ r ≡ answerOf (saidList (listCall firstCome (now (book .entry)) (now (result .entry)) .answer)) ⌝ }
-    ensures { λ _. ⌜ now (result .exit) ≡ listCall firstCome (now (book .entry)) (now (result .entry)) .buffer ⌝ }
+pub extern "C" fn jelvaksna_first_come_list(
+    opening: u32,
+    book: &[u32],
+    result: &mut [u32],
+) -> Answer
+    ensures { λ r. ⌜ r ≡ answerOf (saidList (listCall (firstCome opening) (now (book .entry)) (now (result .entry)) .answer)) ⌝ }
+    ensures { λ _. ⌜ now (result .exit) ≡ listCall (firstCome opening) (now (book .entry)) (now (result .entry)) .buffer ⌝ }
 {
-    answers::of_list(first_come::list(book, result))
+    answers::of_list(first_come::list(opening, book, result))
 }
 
 // The one plan's order, if its worst lateness is at most the bound.
 #[no_mangle]
 pub extern "C" fn jelvaksna_first_come_order_for_bound(
+    opening: u32,
     book: &[u32],
     bound: i32,
     result: &mut [u32],
 ) -> Answer
-    ensures { λ r. ⌜ r ≡ answerOf (saidOrder (boundCall firstCome (now (book .entry)) bound (now (result .entry)) .answer)) ⌝ }
-    ensures { λ _. ⌜ now (result .exit) ≡ boundCall firstCome (now (book .entry)) bound (now (result .entry)) .buffer ⌝ }
+    ensures { λ r. ⌜ r ≡ answerOf (saidOrder (boundCall (firstCome opening) (now (book .entry)) bound (now (result .entry)) .answer)) ⌝ }
+    ensures { λ _. ⌜ now (result .exit) ≡ boundCall (firstCome opening) (now (book .entry)) bound (now (result .entry)) .buffer ⌝ }
 {
-    answers::of_order(first_come::order_for_bound(book, bound, result))
+    answers::of_order(first_come::order_for_bound(opening, book, bound, result))
 }
 
 // The order of plan 1, the one plan.
 #[no_mangle]
 pub extern "C" fn jelvaksna_first_come_order_of_plan(
+    opening: u32,
     book: &[u32],
     plan: u32,
     result: &mut [u32],
 ) -> Answer
-    ensures { λ r. ⌜ r ≡ answerOf (saidOrder (planCall firstCome (now (book .entry)) plan (now (result .entry)) .answer)) ⌝ }
-    ensures { λ _. ⌜ now (result .exit) ≡ planCall firstCome (now (book .entry)) plan (now (result .entry)) .buffer ⌝ }
+    ensures { λ r. ⌜ r ≡ answerOf (saidOrder (planCall (firstCome opening) (now (book .entry)) plan (now (result .entry)) .answer)) ⌝ }
+    ensures { λ _. ⌜ now (result .exit) ≡ planCall (firstCome opening) (now (book .entry)) plan (now (result .entry)) .buffer ⌝ }
 {
-    answers::of_order(first_come::order_of_plan(book, plan, result))
+    answers::of_order(first_come::order_of_plan(opening, book, plan, result))
 }
 
 // The verdict on a posted order of row numbers.
 #[no_mangle]
-pub extern "C" fn jelvaksna_first_come_verdict(book: &[u32], posting: &[u32]) -> Answer
-    ensures { λ r. ⌜ r ≡ answerOf (saidVerdict (verdictCall firstCome (now (book .entry)) (now (posting .entry)))) ⌝ }
+pub extern "C" fn jelvaksna_first_come_verdict(
+    opening: u32,
+    book: &[u32],
+    posting: &[u32],
+) -> Answer
+    ensures { λ r. ⌜ r ≡ answerOf (saidVerdict (verdictCall (firstCome opening) (now (book .entry)) (now (posting .entry)))) ⌝ }
 {
-    answers::of_verdict(first_come::verdict(book, posting))
+    answers::of_verdict(first_come::verdict(opening, book, posting))
 }
 
 // The place of a row's number word.
 #[no_mangle]
 pub extern "C" fn jelvaksna_first_come_row_place(book: &[u32], row: u32) -> Answer
-    ensures { λ r. ⌜ r ≡ answerOf (saidPlace (placeCall firstCome (now (book .entry)) row)) ⌝ }
+    ensures { λ r. ⌜ r ≡ answerOf (saidPlace (placeCall FirstCome (now (book .entry)) row)) ⌝ }
 {
     answers::of_place(first_come::row_place(book, row))
 }
 
 // Opens a desk with a book: the count of rows and the desk's minute, and the words of the desk.
 #[no_mangle]
-pub extern "C" fn jelvaksna_desk_open(book: &[u32], desk: &mut [u32]) -> Answer
-    ensures { λ r. ⌜ r ≡ answerOf (saidOpen (openCall (now (book .entry)) (now (desk .entry)) .answer)) ⌝ }
-    ensures { λ _. ⌜ now (desk .exit) ≡ openCall (now (book .entry)) (now (desk .entry)) .buffer ⌝ }
+pub extern "C" fn jelvaksna_desk_open(opening: u32, book: &[u32], desk: &mut [u32]) -> Answer
+    ensures { λ r. ⌜ r ≡ answerOf (saidOpen (openCall opening (now (book .entry)) (now (desk .entry)) .answer)) ⌝ }
+    ensures { λ _. ⌜ now (desk .exit) ≡ openCall opening (now (book .entry)) (now (desk .entry)) .buffer ⌝ }
 {
-    answers::of_open(open_desk::open(book, desk))
+    answers::of_open(open_desk::open(opening, book, desk))
 }
 
 // Starts a row of an open desk at a minute: the desk's new minute and the worst lateness so far.

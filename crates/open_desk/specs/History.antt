@@ -6,22 +6,22 @@ use mathlib.Core.List.{List, [], _∷_, map}
 use mathlib.Core.Option.{Option, none, some}
 use lib.Dec.{eqb}
 use lib.IntN.{ℤ, subℕ}
-use Rattle.schedule.specs.Rows.{jobOf, Day, jobs, rowNumbers, stands}
+use Rattle.schedule.specs.Rows.{job, Day, rowNumbers, stands}
 use Rattle.schedule.specs.Desk.{worstOf}
 use Rattle.calls.specs.Answers.{Said, saidList, saidOrder}
 use Rattle.outcomes.specs.Planning.{Outcome}
 use Rattle.promises.specs.Vocabulary.{told}
-use Rattle.running.specs.Running.{Running}
+use Rattle.running.specs.Running.{Running, rowsSeen}
 use Rattle.desk_open.specs.Opens.{openCall}
 use Rattle.desk_start.specs.Starts.{startCall}
 use Rattle.desk_plans.specs.Plans.{deskListCall, deskPlanCall}
 use Rattle.open_desk.specs.Answers.{saidOpen, saidStart}
 
--- The offered calls: opening lent words with a book; and on these words, a start of a row at a minute, the list into a buffer, and the
+-- The offered calls: opening lent words with a book and opening minutes; and on these words, a start of a row at a minute, the list into a buffer, and the
 -- order of a listed plan by its number from 1. What is lent for writing is given with the answer, as it is after the call: the desk's words
 -- by the first two, the buffer by the others. These are lent the desk for reading.
-abbrev pub deskOpen : (book ws : List ℕ) → Outcome Said
-deskOpen book ws = told saidOpen (openCall book ws)
+abbrev pub deskOpen : (opening : ℕ) → (book ws : List ℕ) → Outcome Said
+deskOpen opening book ws = told saidOpen (openCall opening book ws)
 
 abbrev pub deskStart : (ws : List ℕ) → (row minute : ℕ) → Outcome Said
 deskStart ws i m = told saidStart (startCall ws i m)
@@ -68,19 +68,19 @@ acceptedStarts ws (c ∷ cs) = withCall ws c (acceptedStarts (afterCall ws c) cs
 abbrev pub asCall : Start → Call
 asCall s = starts (s .row) (s .minute)
 
--- # What starts on a day's desk come to, told from the starts alone
+-- # What starts on a day's desk come to, told from the opening minutes and the starts alone
 -- The rows left: those that no start has taken, in the sequence of the book.
 unfoldable pub notTaken : List Start → List ℕ → List ℕ
 notTaken done [] = []
 notTaken done (i ∷ is) = cond (stands i (map (λ (s : Start). s .row) done)) (notTaken done is) (i ∷ notTaken done is)
 
-module _ (day : Day) where
-  -- A start's end is its minute plus the row's length; it is late by end minus due.
+module _ (opening : ℕ) (day : Day) where
+  -- A start's end is its minute plus opening plus the row's length; it is late by end minus due.
   abbrev pub endOfStart : Start → ℕ
-  endOfStart s = s .minute + jobs day (s .row) .length
+  endOfStart s = s .minute + (opening + job (day .rows) (s .row) .length)
 
   abbrev pub latenessOfStart : Start → ℤ
-  latenessOfStart s = subℕ (endOfStart s) (jobs day (s .row) .due)
+  latenessOfStart s = subℕ (endOfStart s) (job (day .rows) (s .row) .due)
 
   -- The desk stands at the end of the last start; where none is done, at the free minute.
   unfoldable pub minuteAfter : ℕ → List Start → ℕ
@@ -95,7 +95,8 @@ module _ (day : Day) where
   -- The running desk after the starts.
   abbrev pub standing : List Start → Running
   standing done = record {
-    rows = map jobOf (day .rows);
+    opening = opening;
+    rows = rowsSeen opening day;
     left = notTaken done (rowNumbers day);
     minute = minuteAfter (day .free) done;
     worst = worstSoFar done;

@@ -4,7 +4,7 @@ use Prim.Native.Nat.{ℕ, _+_, _*_, _≤_, _<_}
 use mathlib.Core.List.{List, List·Memᴰ}
 use mathlib.Core.Logic.{_⊎_}
 use lib.ListN.{length}
-use Rattle.schedule.specs.Limits.{latestStart, latestDeskEnd, longestLength}
+use Rattle.schedule.specs.Limits.{latestStart, latestEnd, longestTime}
 use Rattle.schedule.specs.Cover.{Agreeing}
 use Rattle.refusals.specs.Refusals.{byRange, byNarrow, byUnlisted, byDone, byEarly}
 use Rattle.running.specs.Running.{Running, jobIn}
@@ -24,7 +24,7 @@ pub data StartTurned (d : Running) (i m : ℕ) : (n p : ℕ) → Type 0 where
 -- The words hold a desk whose rows left can be planned: its minute leaves room for them, and no two of them disagree.
 pub record CanPlan (ws : List ℕ) : Type 0 where
   pub desk : IsDesk ws
-  pub room : running ws .minute + longestLength * length (running ws .left) ≤ latestDeskEnd
+  pub room : running ws .minute + longestTime * length (running ws .left) ≤ latestEnd
   pub agree : Agreeing (jobIn (running ws .rows)) (running ws .left)
 
 -- A call on lent words: these are no desk that the call can work on; or they are one, and the call is turned down by it.

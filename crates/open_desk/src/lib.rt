@@ -14,11 +14,11 @@ use running::Layout;
 // The words of a desk.
 pub const WORDS: usize = Layout::WORDS;
 
-// Opens a desk with a book: from then on the lent words carry its rows.
-pub fn open(book: &[u32], desk: &mut [u32]) -> OpenAnswer
-    ensures { λ r. ⌜ gives r (now (desk .exit)) ≡ openCall (now (book .entry)) (now (desk .entry)) ⌝ }
+// Opens a desk with a book: from then on the lent words carry its rows and the opening minutes.
+pub fn open(opening: u32, book: &[u32], desk: &mut [u32]) -> OpenAnswer
+    ensures { λ r. ⌜ gives r (now (desk .exit)) ≡ openCall opening (now (book .entry)) (now (desk .entry)) ⌝ }
 {
-    desk_open::open(book, desk)
+    desk_open::open(opening, book, desk)
 }
 
 // Starts a row at a minute: the desk moves to its end.

@@ -32,7 +32,7 @@ pub record Planning : Type 0 where
   pub plans : List Pair
   pub orders : ℤ → Option (List ℕ)
 
--- The rows 1 to n from the minute t on, by a profile; and the rows of a day from its free minute on.
+-- The rows 1 to n from the minute t on, by a profile; and the rows of a day from its free minute on, each with so many opening minutes.
 abbrev pub planningIn : Profile → (ℕ → Job) → (t n : ℕ) → Planning
 planningIn profile job t n = record {
   job = job;
@@ -42,5 +42,5 @@ planningIn profile job t n = record {
   orders = orderBy profile job t (countFrom 1 n);
 }
 
-abbrev pub planningOf : Profile → Day → Planning
-planningOf profile day = planningIn profile (jobs day) (day .free) (length (day .rows))
+abbrev pub planningOf : Profile → (opening : ℕ) → Day → Planning
+planningOf profile opening day = planningIn profile (jobs opening day) (day .free) (length (day .rows))

@@ -1,8 +1,8 @@
 -- The three properties of the offered calls, for every book, bound, plan number, posting and buffer. `terms` is what the calls are told:
--- `orderingRule` (readers) or `firstCome` (first_come). The proofs are `lent-memory`, `definitions-hold` and `cover-holds`, in
--- proofs/Promise.antt. That each function does what is said here of its call is its contract (planner/src, first_come/src).
+-- `orderingRule` (readers) or `firstCome` (first_come), with any opening minutes. The proofs are `lent-memory`, `definitions-hold` and
+-- `cover-holds`, in proofs/Promise.antt. That each function does what is said here of its call is its contract (planner/src, first_come/src).
 -- Rests on: Vocabulary, Table, the grammar of books, the schedule.
-use Prim.Native.Nat.{ℕ, _*_, _≤_, _<_}
+use Prim.Native.Nat.{ℕ, _+_, _*_, _≤_, _<_}
 use mathlib.Core.Path.{_≡_}
 use mathlib.Core.List.{List, [], List·Memᴰ}
 use mathlib.Core.Logic.{_↔_}
@@ -10,12 +10,13 @@ use mathlib.Core.Option.{some}
 use lib.ListN.{length, take, drop}
 use lib.IntN.{ℤ, pos}
 use lib.Signed.{_≤ℤ_, _<ℤ_}
+use Rattle.theory.specs.Jobs.{Job}
 use Rattle.schedule.specs.Limits.{latestBookEnd, leastLateness}
 use Rattle.schedule.specs.declared.Profile.{Profile}
 use Rattle.schedule.specs.declared.Profile.the-variants.{Ordering, FirstCome}
 use Rattle.schedule.specs.declared.Class.the-variants.{Of}
-use Rattle.schedule.specs.Rows.{row, Day, jobs, rowNumbers}
-use Rattle.schedule.specs.Desk.{Pair, OrderOf, Attains, endOf, pairOf}
+use Rattle.schedule.specs.Rows.{row, job, Day, jobs, rowNumbers}
+use Rattle.schedule.specs.Desk.{Pair, OrderOf, Attains, endOf, idleOf, lengthsOf, pairOf}
 use Rattle.schedule.specs.Plans.{plans, firstBeating}
 use Rattle.schedule.specs.Cover.{Rising}
 use Rattle.refusals.specs.Refusals.{byUnkept}
@@ -24,12 +25,13 @@ use Rattle.pairs.specs.Pairs.{numberWord}
 use Rattle.grammar.specs.Books.{Tells}
 use Rattle.book.specs.Rows.{accepted}
 use Rattle.readers.specs.declared.Terms.{Terms}
-use Rattle.readers.specs.Reads.{readBy}
+use Rattle.readers.specs.Reads.{withoutOpening, readBy}
 use Rattle.results.specs.Results.{written, planWords, orZero}
-use Rattle.outcomes.specs.Planning.{Outcome, gives, nth, Planning, planningOf}
+use Rattle.outcomes.specs.Planning.{Outcome, gives, nth, Planning}
 use Rattle.calls.specs.Answers.{Said, saidNo}
+use Rattle.calls.specs.Calls.{planned}
 use Rattle.promises.specs.Vocabulary.{saidCount, saidPair, saidJudged, saidAt, Refuses, listed, ReaderOrder, endBy, lateBy, pairBy}
-use Rattle.promises.specs.Vocabulary.{list, bound, plan, verdict, place, words, NoneBeats, EndsSooner, LessLate, Accepts}
+use Rattle.promises.specs.Vocabulary.{list, bound, plan, verdict, place, words, NoneBeats, EndsSooner, LessLate, Takes}
 use Rattle.promises.specs.Table.{Turned, ListTurned, BoundTurned, PlanTurned, VerdictTurned, RowTurned}
 
 -- # 1. The lent memory
@@ -56,51 +58,59 @@ pub record Property1 (terms : Terms) : Type 0 where
   -- A refused call for a row's words gives an empty part.
   pub of-row : (book : List ℕ) (k : ℕ) → 1 ≤ place terms book k .number →
       InTable (terms .profile) (place terms book k .number) × (words terms book k ≡ [])
-  -- "Up to 256 rows are taken." `Accepts` asks no more of a book than that it is written from 1 to 256 rows in range with different
-  -- numbers, of which no two clash; such a book, whichever it is, is listed in any buffer of two words for each row.
-  pub rows-taken : (book : List ℕ) (day : Day) → Accepts (terms .profile) book day → (b : List ℕ) →
+  -- "Up to 256 rows are taken." `Takes` asks no more than an opening of 0 to 30 minutes and a book that is written from 1 to 256 rows in
+  -- range with different numbers, of which no two clash; such a book, whichever it is, is listed in any buffer of two words for each row.
+  pub rows-taken : (book : List ℕ) (day : Day) → Takes terms book day → (b : List ℕ) →
       2 * length (day .rows) ≤ length b → list terms book b .answer .number ≡ 0
 
 -- # 2. The definitions
 -- "Each accepted book gives the ends, latenesses and orders of the definitions": what each call answers and writes, outright. `plans` are
 -- the pairs that some order of the rows attains and no order beats, by rising end.
 module _ (terms : Terms) (book : List ℕ) (day : Day) where
+  -- What planning sees of each row: opening plus length is its time at the desk.
+  abbrev pub seen : ℕ → Job
+  seen = jobs (terms .opening) day
+
   abbrev pub front : List Pair
-  front = plans (jobs day) (day .free) (rowNumbers day)
+  front = plans seen (day .free) (rowNumbers day)
 
   pub record Given : Type 0 where
     pub of-list : (b : List ℕ) → 2 * length (day .rows) ≤ length b →
         list terms book b ≡ gives (saidCount (length front)) (written (planWords front) b)
-    pub of-bound : (y : ℤ) (b order : List ℕ) → length (day .rows) ≤ length b → planningOf (terms .profile) day .orders y ≡ some order →
-        bound terms book y b ≡ gives (saidPair (pairOf (jobs day) (day .free) order)) (written order b)
+    pub of-bound : (y : ℤ) (b order : List ℕ) → length (day .rows) ≤ length b → planned terms day .orders y ≡ some order →
+        bound terms book y b ≡ gives (saidPair (pairOf seen (day .free) order)) (written order b)
     -- Each pair's order is the order for the bound equal to its lateness.
     pub of-plan : (k : ℕ) (p : Pair) (b : List ℕ) → nth front k ≡ some p → plan terms book k b ≡ bound terms book (p .late) b
     pub of-verdict : (posting : List ℕ) → OrderOf (rowNumbers day) posting →
         verdict terms book posting ≡
-        let pair = pairOf (jobs day) (day .free) posting in
+        let pair = pairOf seen (day .free) posting in
         saidJudged pair (orZero (firstBeating 1 front pair))
     pub of-row : (k : ℕ) → 1 ≤ k → k ≤ length (day .rows) →
         (place terms book k ≡ saidAt (numberWord k)) × (words terms book k ≡ take 4 (drop (numberWord k) book))
-    -- Ends are at most 17,680,000 and lateness lies between -19,999,999 and 17,680,000.
+    -- Idle plus openings plus lengths is end minus the free minute: of all n rows, n openings.
+    pub sum : (order : List ℕ) → OrderOf (rowNumbers day) order →
+        day .free + (idleOf seen (day .free) order + length (day .rows) * terms .opening + lengthsOf (job (day .rows)) order) ≡
+        endOf seen (day .free) order
+    -- Ends are at most 17,687,680 and lateness lies between -19,999,999 and 17,687,680.
     pub ranges : (order : List ℕ) → OrderOf (rowNumbers day) order →
-        (endOf (jobs day) (day .free) order ≤ latestBookEnd) ×
-        (pairOf (jobs day) (day .free) order .late ≤ℤ pos latestBookEnd) × (leastLateness ≤ℤ pairOf (jobs day) (day .free) order .late)
+        (endOf seen (day .free) order ≤ latestBookEnd) ×
+        (pairOf seen (day .free) order .late ≤ℤ pos latestBookEnd) × (leastLateness ≤ℤ pairOf seen (day .free) order .late)
 
 -- "Each refusal comes under its stated condition and no other": refused n at p exactly if the condition holds and no earlier one does.
 pub record Property2 (terms : Terms) : Type 0 where
-  -- The calls plan the day of a book exactly if the book is accepted; then they give what is defined.
-  pub accepts : (book : List ℕ) (day : Day) → (readBy terms book ≡ accepted day) ↔ Accepts (terms .profile) book day
-  pub given : (book : List ℕ) (day : Day) → Accepts (terms .profile) book day → Given terms book day
+  -- The calls plan the day of a book exactly if they take it; then they give what is defined.
+  pub takes : (book : List ℕ) (day : Day) → (readBy terms book ≡ accepted day) ↔ Takes terms book day
+  pub given : (book : List ℕ) (day : Day) → Takes terms book day → Given terms book day
   pub list-refused : (book b : List ℕ) (n p : ℕ) → Refuses (list terms book b .answer) n p ↔
-      Turned (terms .profile) book (λ day. ListTurned (planningOf (terms .profile) day) b) n p
+      Turned terms book (λ day. ListTurned (planned terms day) b) n p
   pub bound-refused : (book : List ℕ) (y : ℤ) (b : List ℕ) (n p : ℕ) → Refuses (bound terms book y b .answer) n p ↔
-      Turned (terms .profile) book (λ day. BoundTurned (planningOf (terms .profile) day) y b) n p
+      Turned terms book (λ day. BoundTurned (planned terms day) y b) n p
   pub plan-refused : (book : List ℕ) (k : ℕ) (b : List ℕ) (n p : ℕ) → Refuses (plan terms book k b .answer) n p ↔
-      Turned (terms .profile) book (λ day. PlanTurned (planningOf (terms .profile) day) k b) n p
+      Turned terms book (λ day. PlanTurned (planned terms day) k b) n p
   pub verdict-refused : (book posting : List ℕ) (n p : ℕ) → Refuses (verdict terms book posting) n p ↔
-      Turned (terms .profile) book (λ day. VerdictTurned (length (day .rows)) posting) n p
+      Turned terms book (λ day. VerdictTurned (length (day .rows)) posting) n p
   pub row-refused : (book : List ℕ) (k n p : ℕ) → Refuses (place terms book k) n p ↔
-      Turned (terms .profile) book (λ day. RowTurned (length (day .rows)) k) n p
+      Turned (withoutOpening (terms .profile)) book (λ day. RowTurned (length (day .rows)) k) n p
   -- A length is the reading time to the nearest minute, between 1 and 30,000.
   pub nearest-minute : NearestMinute
   -- By the ordering rule a book of one class is never refused for disorder, however its rows stand.
@@ -165,20 +175,18 @@ pub data BoundAnswered (planning : Planning) (y : ℤ) (c : List ℕ) (o : Outco
   unkept : ((order : List ℕ) → ReaderOrder planning order → ¬ (lateBy planning order ≤ℤ y)) → o ≡ gives (saidNo byUnkept 0) c →
       BoundAnswered planning y c o
 
--- Of the calls on a book that gives a day, `planned`.
+-- Of the calls on a book that gives a day.
 module _ (terms : Terms) (book : List ℕ) (day : Day) where
-  abbrev pub planned : Planning
-  planned = planningOf (terms .profile) day
-
   -- L are the plans that the list writes into a buffer.
   pub record CoverIn (L : List Pair) : Type 0 where
-    pub covered : Covered planned L
-    pub plan-orders : PlanOrders planned L (plan terms book)
-    pub verdicts : (posted : List ℕ) → ReaderOrder planned posted → Judged planned L posted (verdict terms book posted)
+    pub covered : Covered (planned terms day) L
+    pub plan-orders : PlanOrders (planned terms day) L (plan terms book)
+    pub verdicts : (posted : List ℕ) → ReaderOrder (planned terms day) posted →
+        Judged (planned terms day) L posted (verdict terms book posted)
 
   pub record Cover : Type 0 where
     pub lists : (b : List ℕ) → 2 * length (day .rows) ≤ length b → CoverIn (listed (list terms book b))
-    pub bounds : (y : ℤ) (c : List ℕ) → length (day .rows) ≤ length c → BoundAnswered planned y c (bound terms book y c)
+    pub bounds : (y : ℤ) (c : List ℕ) → length (day .rows) ≤ length c → BoundAnswered (planned terms day) y c (bound terms book y c)
 
 abbrev pub Property3 : Terms → Type 0
-Property3 terms = (book : List ℕ) (day : Day) → Accepts (terms .profile) book day → Cover terms book day
+Property3 terms = (book : List ℕ) (day : Day) → Takes terms book day → Cover terms book day

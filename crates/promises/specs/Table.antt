@@ -1,5 +1,6 @@
 -- The table of refusals: under which condition a call is refused, number by number, with the place. 1 to 7 are in the grammar (`Wrong`,
--- `FirstWrong`); here are the others, and the sequence: words, then 8 or 13, then 10, 11, 9, 12. The proofs are in proofs/Refused.antt.
+-- `FirstWrong`); here are the others, and the sequence: opening, words, then 8 or 13, then 10, 11, 9, 12. The proofs are in
+-- proofs/Refused.antt.
 -- Rests on: Vocabulary, the grammar of books.
 use Prim.Native.Nat.{ℕ, min, _*_, _≤_, _<_}
 use mathlib.Core.Path.{_≡_}
@@ -8,16 +9,18 @@ use mathlib.Core.Logic.{_⊎_}
 use lib.ListN.{length, getD}
 use lib.IntN.{ℤ}
 use lib.Signed.{_≤ℤ_}
+use Rattle.schedule.specs.Limits.{mostOpening}
 use Rattle.schedule.specs.declared.Row.{Row}
 use Rattle.schedule.specs.declared.Profile.{Profile}
 use Rattle.schedule.specs.declared.Profile.the-variants.{Ordering, FirstCome}
 use Rattle.schedule.specs.Rows.{row, Day}
-use Rattle.refusals.specs.Refusals.{byDisorder, byNarrow, byNotPosting, byUnlisted, byUnkept, byCrossed}
+use Rattle.refusals.specs.Refusals.{byRange, byDisorder, byNarrow, byNotPosting, byUnlisted, byUnkept, byCrossed}
 use Rattle.pairs.specs.Pairs.{numberWord}
 use Rattle.grammar.specs.Words.{FirstWrong}
 use Rattle.grammar.specs.Books.{Tells}
+use Rattle.readers.specs.declared.Terms.{Terms}
 use Rattle.outcomes.specs.Planning.{Planning}
-use Rattle.promises.specs.Vocabulary.{ReaderOrder, lateBy, Disagree, Cross, Accepts}
+use Rattle.promises.specs.Vocabulary.{ReaderOrder, lateBy, Disagree, Cross, Takes}
 
 -- Row k is the earliest of the rows that clashes with any row above it.
 pub record EarliestClash (Clash : Row → Row → Type 0) (rows : List Row) (k : ℕ) : Type 0 where
@@ -34,10 +37,12 @@ pub data BookRefused (profile : Profile) (book : List ℕ) : (n p : ℕ) → Typ
   crossed : profile ≡ FirstCome → (day : Day) → Tells book day → (k : ℕ) → EarliestClash Cross (day .rows) k →
       BookRefused profile book byCrossed (numberWord k)
 
--- How a call is: by the book, or, of an accepted book, under a condition of its own.
-pub data Turned (profile : Profile) (book : List ℕ) (Own : Day → (n p : ℕ) → Type 0) (n p : ℕ) : Type 0 where
-  by-book : BookRefused profile book n p → Turned profile book Own n p
-  by-call : (day : Day) → Accepts profile book day → Own day n p → Turned profile book Own n p
+-- How a call is: by the opening minutes, whatever the book and the buffer are; then by the book; then, of a book that it takes, under a
+-- condition of its own.
+pub data Turned (terms : Terms) (book : List ℕ) (Own : Day → (n p : ℕ) → Type 0) : (n p : ℕ) → Type 0 where
+  by-opening : mostOpening < terms .opening → Turned terms book Own byRange 0
+  by-book : (n p : ℕ) → terms .opening ≤ mostOpening → BookRefused (terms .profile) book n p → Turned terms book Own n p
+  by-call : (n p : ℕ) → (day : Day) → Takes terms book day → Own day n p → Turned terms book Own n p
 
 -- The list needs two words for each row.
 pub data ListTurned (planning : Planning) (b : List ℕ) : (n p : ℕ) → Type 0 where

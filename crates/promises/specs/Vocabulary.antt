@@ -7,6 +7,7 @@ use mathlib.Core.Logic.{_⊎_}
 use lib.ListN.{length}
 use lib.IntN.{ℤ, pos}
 use lib.Signed.{_≤ℤ_, _<ℤ_}
+use Rattle.schedule.specs.Limits.{mostOpening}
 use Rattle.schedule.specs.declared.Row.{Row}
 use Rattle.schedule.specs.declared.Profile.{Profile}
 use Rattle.schedule.specs.declared.Profile.the-variants.{Ordering, FirstCome}
@@ -27,7 +28,7 @@ abbrev pub told : {A : Type 0} → (A → Said) → Outcome A → Outcome Said
 told said o = gives (said (o .answer)) (o .buffer)
 
 -- The offered calls, lent a book: the list into a buffer; the order for a bound; the order of a listed plan by its number from 1; the
--- verdict on a posting; the place of a row's number word, and the row's words.
+-- verdict on a posting; the place of a row's number word, and the row's words. The last two are told no opening.
 module _ (terms : Terms) (book : List ℕ) where
   abbrev pub list : (b : List ℕ) → Outcome Said
   list b = told saidList (listCall terms book b)
@@ -42,10 +43,10 @@ module _ (terms : Terms) (book : List ℕ) where
   verdict posting = saidVerdict (verdictCall terms book posting)
 
   abbrev pub place : ℕ → Said
-  place k = saidPlace (placeCall terms book k)
+  place k = saidPlace (placeCall (terms .profile) book k)
 
   abbrev pub words : ℕ → List ℕ
-  words k = wordsCall terms book k
+  words k = wordsCall (terms .profile) book k
 
 -- What the calls say when they are not refused: so many plans; a pair; a pair and the plan that beats it, 0 for none; a place.
 abbrev pub saidCount : ℕ → Said
@@ -122,3 +123,8 @@ Clash FirstCome = Cross
 pub record Accepts (profile : Profile) (book : List ℕ) (day : Day) : Type 0 where
   pub tells : Tells book day
   pub no-clash : (i j : ℕ) → 1 ≤ i → i < j → j ≤ length (day .rows) → ¬ Clash profile (row (day .rows) j) (row (day .rows) i)
+
+-- A call that is told these terms takes a book: the opening minutes lie between 0 and 30, and the book is accepted.
+pub record Takes (terms : Terms) (book : List ℕ) (day : Day) : Type 0 where
+  pub opening : terms .opening ≤ mostOpening
+  pub accepts : Accepts (terms .profile) book day

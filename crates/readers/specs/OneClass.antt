@@ -8,8 +8,7 @@ use Rattle.schedule.specs.declared.Profile.the-variants.{Ordering}
 use Rattle.schedule.specs.Rows.{row, Day, rowNumbers}
 use Rattle.book.specs.Rows.{accepted}
 use Rattle.book.specs.Book.{readWords}
-use Rattle.readers.specs.declared.Terms.{Terms}
-use Rattle.readers.specs.Reads.{readBy}
+use Rattle.readers.specs.Reads.{readFor}
 
 -- Every row is of class c.
 abbrev pub OfClass : ℕ → Day → Type 0
@@ -17,5 +16,4 @@ OfClass c day = (i : ℕ) → List·Memᴰ i (rowNumbers day) → row (day .rows
 
 -- By the ordering rule a book of one class never meets disorder, however its rows stand: passing tests 1 to 7, it is accepted.
 abbrev pub OneClass : Type 0
-OneClass = (terms : Terms) (book : List ℕ) (c : ℕ) (day : Day) → terms .profile ≡ Ordering → readWords book ≡ accepted day → OfClass c day →
-    readBy terms book ≡ accepted day
+OneClass = (book : List ℕ) (c : ℕ) (day : Day) → readWords book ≡ accepted day → OfClass c day → readFor Ordering book ≡ accepted day

@@ -1,35 +1,64 @@
 // The readers of both profiles: a book by the terms of a call, as its rows in columns or the refusal.
 ghost use mathlib.Core.Path.{_≡_};
-ghost use Prim.Native.Nat.{ℕ, _≤_};
+ghost use Prim.Native.Nat.{ℕ, _+_, _≤_};
 ghost use lib.ListN.{length};
-ghost use Rattle.schedule.specs.Limits.{mostRows, rowPlaces, latestMinute, longestLength, latestDue};
-ghost use Rattle.schedule.specs.Columns.{columns};
+ghost use Rattle.schedule.specs.Limits.{mostRows, rowPlaces, latestMinute, longestLength, longestTime, latestDue, mostOpening};
+ghost use Rattle.schedule.specs.Columns.{at, columns};
+ghost use Rattle.schedule.specs.Filled.{Filled, from};
+ghost use Rattle.refusals.specs.Refusals.{byRange};
+ghost use Rattle.refusals.specs.declared.Tested.the-variants.{Refused};
 ghost use Rattle.rows.specs.InColumns.{Within};
 ghost use Rattle.readers.specs.Rules.{numberBy};
 ghost use Rattle.readers.specs.Seconds.{secondBy, JobsTested};
-ghost use Rattle.readers.specs.Reads.{readBy, Gives};
+ghost use Rattle.readers.specs.Reads.{orderingRule, firstCome, withoutOpening, readBy, Gives};
 use refusals::Tested;
 use rows::Columns;
 use schedule::Desk;
 use schedule::Profile;
 
-// The most that the release and the length of a row come to.
-const MOST_READY: u32 = 10_030_000;
+// The most that the release of a row and its time at the desk come to.
+const MOST_READY: u32 = 10_030_030;
 
-// What a call is told beside the book.
+// What a call is told beside the book: the profile, and the minutes that each transcript takes to open.
 pub struct Terms {
     pub profile: Profile,
+    pub opening: u32,
 }
 
 impl Terms {
     // To plan by the ordering rule.
-    pub const ORDERING_RULE: Terms = Terms {
-        profile: Profile::Ordering,
-    };
+    pub fn ordering_rule(opening: u32) -> Terms
+        ensures { λ r. ⌜ r ≡ orderingRule opening ⌝ }
+    {
+        Terms {
+            profile: Profile::Ordering,
+            opening: opening,
+        }
+    }
+
+    // To plan first come, first due.
+    pub fn first_come(opening: u32) -> Terms
+        ensures { λ r. ⌜ r ≡ firstCome opening ⌝ }
+    {
+        Terms {
+            profile: Profile::FirstCome,
+            opening: opening,
+        }
+    }
+
+    // To work out no ends.
+    pub fn without_opening(profile: Profile) -> Terms
+        ensures { λ r. ⌜ r ≡ withoutOpening profile ⌝ }
+    {
+        Terms {
+            profile: profile,
+            opening: 0,
+        }
+    }
 }
 
-// What a book gives by the terms: how the tests came out; of an accepted book also the free minute, the count of rows, and the rows in
-// columns.
+// What a book gives by the terms: how the tests came out; of an accepted book also the free minute, the count of rows, and in columns what
+// planning sees of the rows.
 pub struct Given {
     pub outcome: Tested,
     pub free: u32,
@@ -50,7 +79,7 @@ fn number_of(profile: Profile) -> u32
 // The second number that the profile compares rows by: the spare, raised so that it is never below 0; or how long before the latest minute
 // the release is.
 fn second_of(profile: Profile, release: u32, minutes: u32, due: u32) -> u32
-    requires { ⌜ (release ≤ latestMinute) × (minutes ≤ longestLength) × (due ≤ latestDue) ⌝ }
+    requires { ⌜ (release ≤ latestMinute) × (minutes ≤ longestTime) × (due ≤ latestDue) ⌝ }
     ensures { λ r. ⌜ r ≡ secondBy profile (record { release = release; length = minutes; due = due }) ⌝ }
 {
     match profile {
@@ -69,7 +98,7 @@ pub fn rule_tests<'a>(
 ) -> Tested
     requires { ⌜ (count ≤ mostRows)
         × (length (now release) ≡ rowPlaces) × (length (now minutes) ≡ rowPlaces) × (length (now due) ≡ rowPlaces)
-        × ((i : ℕ) → Within latestMinute longestLength latestDue (columns (now release) (now minutes) (now due) i)) ⌝ }
+        × ((i : ℕ) → Within latestMinute longestTime latestDue (columns (now release) (now minutes) (now due) i)) ⌝ }
     ensures { λ r. ⌜ JobsTested profile (columns (now (release .entry)) (now (minutes .entry)) (now (due .entry))) count r ⌝ }
 {
     let mut seconds: [u32; Desk::PLACES] = [0; Desk::PLACES];
@@ -81,10 +110,47 @@ pub fn rule_tests<'a>(
     pairs::pair_tests(due, &seconds, count, number_of(profile))
 }
 
-// What a book gives by the terms: tests 1 to 7, then the rule of the profile. (A book that is refused before has no rows to test.)
-pub fn read(terms: Terms, book: &[u32]) -> Given
-    ensures { λ r. ⌜ Gives (readBy terms (now (book .entry))) r ⌝ }
+// The time that each of the first n rows takes at the desk: opening plus length.
+fn times(opening: u32, minutes: &[u32; Desk::PLACES], n: usize) -> [u32; Desk::PLACES]
+    requires { ⌜ (opening ≤ mostOpening) × (n ≤ mostRows) × (length (now minutes) ≡ rowPlaces)
+        × ((i : ℕ) → at (now minutes) i ≤ longestLength) ⌝ }
+    ensures { λ r. ⌜ Filled rowPlaces (from 1) (λ k. opening + at (now (minutes .entry)) (k + 1)) n r ⌝ }
 {
+    let mut taken: [u32; Desk::PLACES] = [0; Desk::PLACES];
+    let mut i = 0;
+    while i < n {
+        i += 1;
+        taken[i] = opening + minutes[i];
+    }
+    taken
+}
+
+// What is given where the opening is refused: nothing of the book.
+fn unread() -> Given
+    ensures { λ r. ⌜ r .outcome ≡ Refused byRange 0 ⌝ }
+{
+    let none: [u32; Desk::PLACES] = [0; Desk::PLACES];
+    Given {
+        outcome: Tested::Refused(Tested::RANGE, 0),
+        free: 0,
+        count: 0,
+        columns: Columns {
+            release: none,
+            length: none,
+            due: none,
+        },
+    }
+}
+
+// What a book gives by the terms: the opening, then tests 1 to 7, then the rule of the profile, which counts no opening. (A book that is
+// refused before has no rows to test.)
+pub fn read(terms: Terms, book: &[u32]) -> Given
+    ensures { λ r. ⌜ Gives (terms .opening) (readBy terms (now (book .entry))) r ⌝ }
+{
+    let opening = terms.opening;
+    if Desk::OPENING < opening {
+        return unread();
+    }
     let all = book::read_words(book);
     let words = all.outcome;
     let free = all.table.free;
@@ -99,10 +165,15 @@ pub fn read(terms: Terms, book: &[u32]) -> Given
         count,
     );
     let outcome = refusals::then(words, rule);
+    let minutes = times(opening, &columns.length, count);
     Given {
         outcome: outcome,
         free: free,
         count: count,
-        columns: columns,
+        columns: Columns {
+            release: columns.release,
+            length: minutes,
+            due: columns.due,
+        },
     }
 }

@@ -4,6 +4,7 @@ ghost use Rattle.row_calls.specs.Places.{placeCall, rowWordsAt, wordsCal
 ghost use Rattle.row_calls.specs.Contracts.{WordsInside, PlaceAmong};
 use readers::Terms;
 use refusals::Tested;
+use schedule::Profile;
 
 // The place of a row's number word, or the refusal.
 pub enum RowPlace {
@@ -31,10 +32,10 @@ fn place_among(outcome: Tested, count: usize, row: u32) -> RowPlace
 }
 
 // The place of a row's number word, rows counted from 1, or the refusal.
-pub fn row_place(terms: Terms, book: &[u32], row: u32) -> RowPlace
-    ensures { λ r. ⌜ r ≡ placeCall terms (now (book .entry)) row ⌝ }
+pub fn row_place(profile: Profile, book: &[u32], row: u32) -> RowPlace
+    ensures { λ r. ⌜ r ≡ placeCall profile (now (book .entry)) row ⌝ }
 {
-    let given = readers::read(terms, book);
+    let given = readers::read(Terms::without_opening(profile), book);
     let outcome = given.outcome;
     place_among(outcome, given.count, row)
 }
@@ -54,9 +55,9 @@ fn words_at<'a>(book: &'a [u32], found: RowPlace) -> &'a [u32]
 }
 
 // The four words of a row, as the part of the caller's book that holds them; empty where the call is refused.
-pub fn row_words<'a>(terms: Terms, book: &'a [u32], row: u32) -> &'a [u32]
-    ensures { λ r. ⌜ now r ≡ wordsCall terms (now (book .entry)) row ⌝ }
+pub fn row_words<'a>(profile: Profile, book: &'a [u32], row: u32) -> &'a [u32]
+    ensures { λ r. ⌜ now r ≡ wordsCall profile (now (book .entry)) row ⌝ }
 {
-    let found = row_place(terms, book, row);
+    let found = row_place(profile, book, row);
     words_at(book, found)
 }

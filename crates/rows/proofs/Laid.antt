@@ -10,7 +10,7 @@ use Rattle.schedule.specs.Limits.{mostRows, rowPlaces}
 use Rattle.schedule.specs.declared.Row.{Row}
 use Rattle.schedule.specs.Rows.{noRow, job}
 use Rattle.rows.specs.declared.Columns.{Columns}
-use Rattle.rows.specs.InColumns.{jobsOf, Within, InColumns}
+use Rattle.rows.specs.InColumns.{jobsOf, Within, RowsInColumns}
 use Rattle.rows.proofs.Column.{Column, column-none, column-more}
 
 abbrev pub releaseOf : Row → ℕ
@@ -65,5 +65,5 @@ module _ {rows : List Row} {c : Columns} (a : Laid rows c) where
           step (no l) = let past : length rows ≤ i = omega arith in
               rw (List·getD-eq-default rows noRow past) ((omega arith, omega arith, omega arith))
 
-  pub in-columns : InColumns rows c
+  pub in-columns : RowsInColumns rows c
   in-columns = record { jobs = λ i l m. same i; releases = a .releases .0; lengths = a .lengths .0; dues = a .dues .0; within = within }

@@ -1,4 +1,4 @@
--- The rows of a table in columns: what the columns hold.
+-- Rows in columns: what the columns hold.
 -- Rests on: the schedule.
 use Prim.Native.Nat.{ℕ, _≤_}
 use mathlib.Core.Path.{_≡_}
@@ -11,7 +11,7 @@ use Rattle.schedule.specs.Rows.{job}
 use Rattle.schedule.specs.Columns.{columns}
 use Rattle.rows.specs.declared.Columns.{Columns}
 
--- What planning sees of each row number, in columns.
+-- The job of each row number, in columns.
 abbrev pub jobsOf : Columns → ℕ → Job
 jobsOf c = columns (c .release) (c .length) (c .due)
 
@@ -19,12 +19,16 @@ jobsOf c = columns (c .release) (c .length) (c .due)
 abbrev pub Within : (top long late : ℕ) → Job → Type 0
 Within top long late j = (j .release ≤ top) × (j .length ≤ long) × (j .due ≤ late)
 
--- The columns hold the rows: the number of each row has its job.
-pub record InColumns (rows : List Row) (c : Columns) : Type 0 where
-  pub jobs : (i : ℕ) → 1 ≤ i → i ≤ length rows → jobsOf c i ≡ job rows i
+-- The columns hold rows 1 to n: each has its job.
+pub record InColumns (job : ℕ → Job) (n : ℕ) (c : Columns) : Type 0 where
+  pub jobs : (i : ℕ) → 1 ≤ i → i ≤ n → jobsOf c i ≡ job i
   pub releases : length (c .release) ≡ rowPlaces
   pub lengths : length (c .length) ≡ rowPlaces
   pub dues : length (c .due) ≡ rowPlaces
   -- What no row exceeds, no place does.
-  pub within : (top long late : ℕ) → ((i : ℕ) → 1 ≤ i → i ≤ length rows → Within top long late (job rows i)) → (i : ℕ) →
+  pub within : (top long late : ℕ) → ((i : ℕ) → 1 ≤ i → i ≤ n → Within top long late (job i)) → (i : ℕ) →
       Within top long late (jobsOf c i)
+
+-- The columns hold the rows of a table, as they are.
+abbrev pub RowsInColumns : List Row → Columns → Type 0
+RowsInColumns rows c = InColumns (job rows) (length rows) c

@@ -6,7 +6,7 @@ ghost use lib.ListN.{length, getD};
 ghost use Rattle.schedule.specs.Limits.{mostRows};
 ghost use Rattle.schedule.specs.Rows.{noRow};
 ghost use Rattle.book.specs.Tables.{tableRows};
-ghost use Rattle.rows.specs.InColumns.{InColumns};
+ghost use Rattle.rows.specs.InColumns.{RowsInColumns};
 use book::Table;
 use schedule::Desk;
 use schedule::Row;
@@ -53,7 +53,7 @@ fn joined(
 // All the rows, each at its number.
 fn columns_of(rows: &[Row]) -> Columns
     requires { ⌜ length (now rows) ≤ mostRows ⌝ }
-    ensures { λ r. ⌜ InColumns (now (rows .entry)) r ⌝ }
+    ensures { λ r. ⌜ RowsInColumns (now (rows .entry)) r ⌝ }
 {
     let mut release = [0; Desk::PLACES];
     let mut minutes = [0; Desk::PLACES];
@@ -72,7 +72,7 @@ fn columns_of(rows: &[Row]) -> Columns
 // The accepted rows of a table, in columns. Once a call, so that picks read plain numbers.
 pub fn columns_in(table: Table) -> Columns
     requires { ⌜ table .count ≤ mostRows ⌝ }
-    ensures { λ r. ⌜ InColumns (tableRows table) r ⌝ }
+    ensures { λ r. ⌜ RowsInColumns (tableRows table) r ⌝ }
 {
     columns_of(accepted_rows(&table))
 }

@@ -11,7 +11,7 @@ use Rattle.schedule.specs.declared.Row.{Row}
 use Rattle.schedule.specs.Rows.{job}
 use Rattle.schedule.specs.Columns.{at}
 use Rattle.schedule.specs.Filled.{Filled, from}
-use Rattle.running.specs.Words.{countIn, releases, lengths, dues, leftTo}
+use Rattle.running.specs.Words.{countIn, releases, times, dues, leftTo}
 use Rattle.rows_left.specs.declared.Left.{Left}
 use Rattle.rows_left.specs.Left.{fitFrom, plansHere}
 
@@ -32,7 +32,7 @@ pub record Gathered (ws : List ℕ) (left : Left) : Type 0 where
   pub counted : left .count ≡ length (leftTo ws (countIn ws))
   pub numbered : Filled rowPlaces (from 1) (leftAt ws) (left .count) (left .rows)
   pub released : Filled rowPlaces (from 1) (wordLeft ws releases (left .rows)) (left .count) (left .columns .release)
-  pub timed : Filled rowPlaces (from 1) (wordLeft ws lengths (left .rows)) (left .count) (left .columns .length)
+  pub timed : Filled rowPlaces (from 1) (wordLeft ws times (left .rows)) (left .count) (left .columns .length)
   pub dated : Filled rowPlaces (from 1) (wordLeft ws dues (left .rows)) (left .count) (left .columns .due)
 
 -- The whole answer of a look at lent words: whether the rows left can be planned, and if so, these rows.

@@ -7,7 +7,7 @@ use mathlib.Core.List.{List, map}
 use lib.Dec.{leb}
 use lib.ListN.{length}
 use Rattle.theory.specs.Jobs.{Job}
-use Rattle.schedule.specs.Limits.{longestLength, latestDeskEnd}
+use Rattle.schedule.specs.Limits.{longestTime, latestEnd}
 use Rattle.schedule.specs.declared.Row.{Row}
 use Rattle.schedule.specs.declared.Class.the-variants.{None}
 use Rattle.schedule.specs.declared.Profile.the-variants.{Ordering}
@@ -28,9 +28,9 @@ abbrev pub hasPassed : Tested → Bool
 hasPassed Passed = true
 hasPassed (Refused n p) = false
 
--- Rows fit to be planned from a minute on: it leaves room for them, so that they end by 27,680,000, and no two of them disagree.
+-- Rows fit to be planned from a minute on: it leaves room for them, so that they end by 27,687,680, and no two of them disagree.
 abbrev pub fitFrom : (minute : ℕ) → List Row → Bool
-fitFrom t rows = leb (t + longestLength * length rows) latestDeskEnd && hasPassed (ruleTests Ordering rows)
+fitFrom t rows = leb (t + longestTime * length rows) latestEnd && hasPassed (ruleTests Ordering rows)
 
 -- The rows left can be planned from the desk's minute on.
 unfoldable pub canPlan : Running → Bool

@@ -3,7 +3,7 @@ ghost use mathlib.Core.Path.{_≡_};
 ghost use mathlib.Core.Bool.{true, cond};
 ghost use Prim.Native.Nat.{ℕ, _+_, _≤_, _<_};
 ghost use lib.ListN.{length, set, replicate};
-ghost use Rattle.schedule.specs.Limits.{mostRows, rowPlaces, latestMinute, longestLength, latestDue, latestStand};
+ghost use Rattle.schedule.specs.Limits.{mostRows, rowPlaces, latestMinute, longestTime, latestDue, latestStand};
 ghost use Rattle.schedule.specs.Columns.{at, columns};
 ghost use Rattle.schedule.specs.Filled.{Filled, from};
 ghost use Rattle.rows.specs.InColumns.{Within};
@@ -16,8 +16,10 @@ use running::Layout;
 use schedule::Desk;
 use schedule::Profile;
 
-// The minute by which the rows left end.
-const LATEST_END: u32 = 27_680_000;
+// The longest time that a row takes, and the minute by which the rows left end.
+const LONGEST_TIME: u32 = 30_030;
+
+const LATEST_END: u32 = 27_687_680;
 
 // The rows left of a desk: whether they can be planned, how many they are, their numbers from place 1 on, and their jobs in columns.
 pub struct Left {
@@ -93,12 +95,12 @@ fn can_plan<'a>(
 ) -> bool
     requires { ⌜ (minute ≤ latestStand) × (count ≤ mostRows)
         × (length (now release) ≡ rowPlaces) × (length (now minutes) ≡ rowPlaces) × (length (now due) ≡ rowPlaces)
-        × ((i : ℕ) → Within latestMinute longestLength latestDue (columns (now release) (now minutes) (now due) i)) ⌝ }
+        × ((i : ℕ) → Within latestMinute longestTime latestDue (columns (now release) (now minutes) (now due) i)) ⌝ }
     ensures { λ r. ⌜ FitTested minute (columns (now (release .entry)) (now (minutes .entry)) (now (due .entry))) count r ⌝ }
 {
     let rule = readers::rule_tests(Profile::Ordering, release, minutes, due, count);
     match rule {
-        Tested::Passed => minute + Layout::LONGEST * (count as u32) <= LATEST_END,
+        Tested::Passed => minute + LONGEST_TIME * (count as u32) <= LATEST_END,
         Tested::Refused(_, _) => false,
     }
 }
@@ -114,7 +116,7 @@ fn gather(desk: &[u32]) -> Left
     let mut due: [u32; Desk::PLACES] = [0; Desk::PLACES];
     let count = numbers_left(desk, &mut rows);
     column_left(desk, Layout::RELEASES, &rows, count, &mut release);
-    column_left(desk, Layout::LENGTHS, &rows, count, &mut minutes);
+    column_left(desk, Layout::TIMES, &rows, count, &mut minutes);
     column_left(desk, Layout::DUES, &rows, count, &mut due);
     let ready = can_plan(desk[Layout::MINUTE], &release, &minutes, &due, count);
     let columns = Columns {

@@ -1,4 +1,4 @@
--- The running desk: the rows it was opened with, those left, its minute, and the worst lateness so far. Its starts.
+-- The running desk: the opening and the rows it was opened with, the rows left, its minute, and the worst lateness so far. Its starts.
 -- Rests on: the schedule's rows, the tests in sequence.
 use Prim.Native.Nat.{ℕ, _+_}
 use mathlib.Core.Bool.{Bool, not, _&&_, _||_}
@@ -9,23 +9,29 @@ use lib.ListN.{length, getD}
 use lib.IntN.{ℤ, subℕ}
 use Rattle.theory.specs.Jobs.{Job}
 use Rattle.schedule.specs.Limits.{latestStart}
-use Rattle.schedule.specs.Rows.{jobOf, Day, rowNumbers, stands, without}
+use Rattle.schedule.specs.Rows.{jobOf, withOpening, Day, rowNumbers, stands, without}
 use Rattle.schedule.specs.Desk.{maxZ}
 use Rattle.refusals.specs.declared.Tested.{Tested}
 use Rattle.refusals.specs.Refusals.{byUnlisted, byDone, byEarly}
 use Rattle.refusals.specs.Tests.{refuseIf, _then_}
 
--- A running desk. `rows` is what planning sees of each row of its book; the rows done are those that are not left. The worst lateness so
--- far is none until a row is done.
+-- A running desk. It keeps the opening minutes that it was opened with; `rows` is what planning sees of each row of its book, so that a
+-- row takes opening plus length; the rows done are those that are not left. The worst lateness so far is none until a row is done.
 pub record Running : Type 0 where
+  pub opening : ℕ
   pub rows : List Job
   pub left : List ℕ
   pub minute : ℕ
   pub worst : Option ℤ
 
+-- What planning sees of the rows of a day, as a desk keeps them.
+abbrev pub rowsSeen : (opening : ℕ) → Day → List Job
+rowsSeen opening day = map (λ r. withOpening opening (jobOf r)) (day .rows)
+
 -- A desk as it is opened: every row is left, at the free minute.
-abbrev pub opened : Day → Running
-opened day = record { rows = map jobOf (day .rows); left = rowNumbers day; minute = day .free; worst = none }
+abbrev pub opened : (opening : ℕ) → Day → Running
+opened opening day =
+    record { opening = opening; rows = rowsSeen opening day; left = rowNumbers day; minute = day .free; worst = none }
 
 -- The job of a row number from 1 on. (0 is no row, and so is a number past the last.)
 abbrev pub noJob : Job
@@ -59,7 +65,13 @@ abbrev pub worstAt : Running → (i m : ℕ) → ℤ
 worstAt d i m = worse (d .worst) (subℕ (endAt d i m) (jobIn (d .rows) i .due))
 
 abbrev pub moved : Running → (i m : ℕ) → Running
-moved d i m = record { rows = d .rows; left = without i (d .left); minute = endAt d i m; worst = some (worstAt d i m) }
+moved d i m = record {
+  opening = d .opening;
+  rows = d .rows;
+  left = without i (d .left);
+  minute = endAt d i m;
+  worst = some (worstAt d i m);
+}
 
 -- Opens every definition of this file: name it on an `unfolding` line where all is to be computed.
 unfoldable pub openRunning : Unit {0}

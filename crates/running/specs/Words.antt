@@ -1,6 +1,7 @@
 -- The words of a lent desk, and the running desk that they hold. Words 0 to 7 are the head: the count of rows, the minute, the worst
--- lateness so far raised by 2³¹ (0 for none), the others kept for later use. Then five columns of 256 words: the release of each row, its
--- length, its due, whether it is done (1), and one that is kept for later use. 1,288 words in all. Rests on: Running.
+-- lateness so far raised by 2³¹ (0 for none), the opening minutes, the others kept for later use. Then five columns of 256 words: the
+-- release of each row, its time at the desk (opening plus length), its due, whether it is done (1), and one that is kept for later use.
+-- 1,288 words in all. Rests on: Running.
 use Prim.Native.Nat.{ℕ, zero, suc, _+_, _≤_}
 use mathlib.Core.Bool.{Bool, true, cond, _&&_, _||_}
 use mathlib.Core.Path.{_≡_}
@@ -11,7 +12,7 @@ use lib.Dec.{leb, eqb}
 use lib.ListN.{length, set}
 use lib.IntN.{ℤ}
 use Rattle.theory.specs.Jobs.{Job}
-use Rattle.schedule.specs.Limits.{mostRows, latestMinute, longestLength, latestDue, latestStand}
+use Rattle.schedule.specs.Limits.{mostRows, latestMinute, longestLength, latestDue, mostOpening, latestStand}
 use Rattle.schedule.specs.Rows.{countFrom}
 use Rattle.schedule.specs.Columns.{at}
 use Rattle.schedule.specs.Offset.{lowered}
@@ -29,12 +30,15 @@ minuteIn ws = at ws 1
 abbrev pub worstIn : List ℕ → ℕ
 worstIn ws = at ws 2
 
+abbrev pub openingIn : List ℕ → ℕ
+openingIn ws = at ws 3
+
 -- Row i has word i of each column, counted from 1: the place before a column's first word.
 abbrev pub releases : ℕ
 releases = 7
 
-abbrev pub lengths : ℕ
-lengths = 263
+abbrev pub times : ℕ
+times = 263
 
 abbrev pub dues : ℕ
 dues = 519
@@ -44,7 +48,7 @@ marks = 775
 
 -- The job of row i, and the jobs of all rows.
 abbrev pub jobAt : List ℕ → ℕ → Job
-jobAt ws i = record { release = at ws (releases + i); length = at ws (lengths + i); due = at ws (dues + i) }
+jobAt ws i = record { release = at ws (releases + i); length = at ws (times + i); due = at ws (dues + i) }
 
 abbrev pub rowsIn : List ℕ → List Job
 rowsIn ws = map (jobAt ws) (countFrom 1 (countIn ws))
@@ -62,33 +66,35 @@ worstHeld (suc w) = some (lowered (suc w))
 -- The running desk that the words hold.
 abbrev pub running : List ℕ → Running
 running ws = record {
+  opening = openingIn ws;
   rows = rowsIn ws;
   left = leftTo ws (countIn ws);
   minute = minuteIn ws;
   worst = worstHeld (worstIn ws);
 }
 
--- The least and the most lateness of a row that is done, raised: -19,999,999 and 20,030,000.
+-- The least and the most lateness of a row that is done, raised: -19,999,999 and 20,030,030.
 abbrev pub leastRaised : ℕ
 leastRaised = 2127483649
 
 abbrev pub mostRaised : ℕ
-mostRaised = 2167513648
+mostRaised = 2167513678
 
--- What is tested of a run that is lent as a desk: its length, the count of rows, the minute, the worst lateness, and each column.
+-- What is tested of a run that is lent as a desk: its length, the count of rows, the minute, the worst lateness, the opening, and each
+-- column. A row's time is the opening and a length from 1 to 30,000.
 unfoldable pub columnFits : (before least most : ℕ) → List ℕ → ℕ → Bool
 columnFits before least most ws zero = true
 columnFits before least most ws (suc n) = columnFits before least most ws n && between least most (at ws (before + suc n))
 
 unfoldable pub rowsFit : List ℕ → ℕ → Bool
 rowsFit ws n =
-    columnFits releases 0 latestMinute ws n && (columnFits lengths 1 longestLength ws n &&
+    columnFits releases 0 latestMinute ws n && (columnFits times (openingIn ws + 1) (openingIn ws + longestLength) ws n &&
     (columnFits dues 0 latestDue ws n && columnFits marks 0 1 ws n))
 
 unfoldable pub headFits : List ℕ → Bool
 headFits ws =
     between 1 mostRows (countIn ws) && (leb (minuteIn ws) latestStand &&
-    (eqb (worstIn ws) 0 || between leastRaised mostRaised (worstIn ws)))
+    (leb (openingIn ws) mostOpening && (eqb (worstIn ws) 0 || between leastRaised mostRaised (worstIn ws))))
 
 unfoldable pub isDesk : List ℕ → Bool
 isDesk ws = leb deskWords (length ws) && (headFits ws && rowsFit ws (countIn ws))
@@ -98,10 +104,11 @@ pub record IsDesk (ws : List ℕ) : Type 0 where
   pub long : deskWords ≤ length ws
   pub count : (1 ≤ countIn ws) × (countIn ws ≤ mostRows)
   pub early : minuteIn ws ≤ latestStand
+  pub opening : openingIn ws ≤ mostOpening
   pub worst : (worstIn ws ≡ 0) ⊎ ((leastRaised ≤ worstIn ws) × (worstIn ws ≤ mostRaised))
   pub rows : (i : ℕ) → 1 ≤ i → i ≤ countIn ws →
-      (at ws (releases + i) ≤ latestMinute) × (1 ≤ at ws (lengths + i)) × (at ws (lengths + i) ≤ longestLength) ×
-      (at ws (dues + i) ≤ latestDue) × (at ws (marks + i) ≤ 1)
+      (at ws (releases + i) ≤ latestMinute) × (openingIn ws + 1 ≤ at ws (times + i)) ×
+      (at ws (times + i) ≤ openingIn ws + longestLength) × (at ws (dues + i) ≤ latestDue) × (at ws (marks + i) ≤ 1)
 
 -- The words after row i is started: the minute, the worst lateness so far, raised, and the row's mark.
 abbrev pub movedWords : List ℕ → (i end worst : ℕ) → List ℕ

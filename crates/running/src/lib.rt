@@ -2,9 +2,9 @@
 ghost use mathlib.Core.Path.{_≡_};
 ghost use Prim.Native.Nat.{_+_, _≤_, _<_};
 ghost use lib.ListN.{length};
-ghost use Rattle.schedule.specs.Limits.{mostRows};
+ghost use Rattle.schedule.specs.Limits.{mostRows, mostOpening};
 ghost use Rattle.running.specs.Running.{between};
-ghost use Rattle.running.specs.Words.{deskWords, columnFits, headFits, rowsFit, isDesk};
+ghost use Rattle.running.specs.Words.{deskWords, openingIn, columnFits, headFits, rowsFit, isDesk};
 use schedule::Desk;
 
 // Where the numbers of a desk stand in its words. Row i has word i of each column, counted from 1: a column is named by the place before
@@ -21,9 +21,12 @@ impl Layout {
 
     pub const WORST: usize = 2;
 
+    pub const OPENING: usize = 3;
+
     pub const RELEASES: usize = 7;
 
-    pub const LENGTHS: usize = 263;
+    // The time of the row at the desk: opening plus length.
+    pub const TIMES: usize = 263;
 
     pub const DUES: usize = 519;
 
@@ -33,18 +36,18 @@ impl Layout {
     // The latest minute of a start, and the latest at which a desk stands.
     pub const LATEST_START: u32 = 20_000_000;
 
-    pub const LATEST_STAND: u32 = 20_030_000;
+    pub const LATEST_STAND: u32 = 20_030_030;
 
     // The least and the most lateness of a row that is done, raised by 2^31.
     const LEAST_RAISED: u32 = 2_127_483_649;
 
-    const MOST_RAISED: u32 = 2_167_513_648;
+    const MOST_RAISED: u32 = 2_167_513_678;
 
     // The most rows of a desk.
     const MOST_ROWS: u32 = 256;
 
     // The longest length of a row.
-    pub const LONGEST: u32 = 30_000;
+    const LONGEST: u32 = 30_000;
 }
 
 // A number lies between two others. Both sides are worked out: columns are tested without a branch.
@@ -70,17 +73,24 @@ fn column_fits(desk: &[u32], before: usize, least: u32, most: u32, n: usize) -> 
 
 // The numbers of the first n rows are in their ranges.
 fn rows_fit(desk: &[u32], n: usize) -> bool
-    requires { ⌜ (n ≤ mostRows) × (deskWords ≤ length (now desk)) ⌝ }
+    requires { ⌜ (n ≤ mostRows) × (openingIn (now desk) ≤ mostOpening) × (deskWords ≤ length (now desk)) ⌝ }
     ensures { λ r. ⌜ r ≡ rowsFit (now (desk .entry)) n ⌝ }
 {
     let release = column_fits(desk, Layout::RELEASES, 0, Desk::MINUTES, n);
-    let minutes = column_fits(desk, Layout::LENGTHS, 1, Layout::LONGEST, n);
+    let opening = desk[Layout::OPENING];
+    let time = column_fits(
+        desk,
+        Layout::TIMES,
+        opening + 1,
+        opening + Layout::LONGEST,
+        n,
+    );
     let due = column_fits(desk, Layout::DUES, 0, Desk::DUES, n);
     let mark = column_fits(desk, Layout::MARKS, 0, 1, n);
-    release & (minutes & (due & mark))
+    release & (time & (due & mark))
 }
 
-// The count of rows, the minute and the worst lateness so far are in theirs.
+// The count of rows, the minute, the opening and the worst lateness so far are in theirs.
 fn head_fits(desk: &[u32]) -> bool
     requires { ⌜ deskWords ≤ length (now desk) ⌝ }
     ensures { λ r. ⌜ r ≡ headFits (now (desk .entry)) ⌝ }
@@ -88,7 +98,8 @@ fn head_fits(desk: &[u32]) -> bool
     let worst = desk[Layout::WORST];
     is_between(1, Layout::MOST_ROWS, desk[Layout::COUNT])
         & ((desk[Layout::MINUTE] <= Layout::LATEST_STAND)
-            & ((worst == 0) | is_between(Layout::LEAST_RAISED, Layout::MOST_RAISED, worst)))
+            & ((desk[Layout::OPENING] <= Desk::OPENING)
+                & ((worst == 0) | is_between(Layout::LEAST_RAISED, Layout::MOST_RAISED, worst))))
 }
 
 // The words hold a desk.

@@ -18,6 +18,7 @@ pub mod Loop
 pub mod Cover
 pub mod Arrival
 pub mod Profiles
+pub mod Opening
 pub mod Ranges
 pub mod Matches
 pub mod RankPicks

@@ -6,6 +6,7 @@ pub mod Plans
 pub mod Cover
 pub mod Arrival
 pub mod Profiles
+pub mod Opening
 pub mod Ranges
 pub mod Offset
 pub mod Columns

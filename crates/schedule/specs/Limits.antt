@@ -21,28 +21,27 @@ longestLength = 30000
 abbrev pub latestDue : ℕ
 latestDue = 20000000
 
+-- The most opening minutes that a call is told, and so the longest time that a row takes at the desk.
+abbrev pub mostOpening : ℕ
+mostOpening = 30
+
+abbrev pub longestTime : ℕ
+longestTime = 30030
+
 -- So an order of a book's rows ends by the latest end, is late by no more than that, and by no less than the least lateness, -19,999,999.
 abbrev pub latestBookEnd : ℕ
-latestBookEnd = 17680000
+latestBookEnd = 17687680
 
 abbrev pub leastLateness : ℤ
 leastLateness = negsuc 19999998
 
--- The latest minute of a start on an open desk, the latest minute at which such a desk stands, and the latest end and lateness of its rows
--- left: the first start of the most rows moves it there at the latest.
+-- The latest minute of a start on an open desk, the latest minute at which such a desk stands, and the latest end and lateness in planning:
+-- a desk whose first start is at the latest minute takes the most rows of the longest time.
 abbrev pub latestStart : ℕ
 latestStart = 20000000
 
 abbrev pub latestStand : ℕ
-latestStand = 20030000
-
-abbrev pub latestDeskEnd : ℕ
-latestDeskEnd = 27680000
-
--- The longest time a row can take at the desk, and the latest minute at which planning can end: a desk that stands at 20,000,000 takes
--- the most rows of the longest time.
-abbrev pub longestTime : ℕ
-longestTime = 30030
+latestStand = 20030030
 
 abbrev pub latestEnd : ℕ
 latestEnd = 27687680

@@ -1,6 +1,6 @@
 -- Rows of a table and their numbers. A row is named by its number in the table, from 1; an order is a list of such numbers.
 -- Rests on: the jobs of the theory.
-use Prim.Native.Nat.{ℕ, zero, suc}
+use Prim.Native.Nat.{ℕ, zero, suc, _+_}
 use mathlib.Core.Bool.{Bool, false, cond, _||_}
 use mathlib.Core.List.{List, [], _∷_}
 use lib.Dec.{eqb}
@@ -17,7 +17,7 @@ noRow = record { number = 0; release = 0; length = 0; due = 0; class = None }
 abbrev pub row : List Row → ℕ → Row
 row rows i = getD (noRow ∷ rows) i noRow
 
--- What planning sees of a row: release, length and due.
+-- A row's own release, length and due.
 abbrev pub jobOf : Row → Job
 jobOf r = record { release = r .release; length = r .length; due = r .due }
 
@@ -29,9 +29,14 @@ pub record Day : Type 0 where
   pub free : ℕ
   pub rows : List Row
 
+-- What planning sees of a job whose transcript takes some minutes to open: it takes opening plus length at the desk. Release and due are
+-- its own. This is all that opening changes; what follows from it is in Opening.
+abbrev pub withOpening : (opening : ℕ) → Job → Job
+withOpening opening j = record { release = j .release; length = opening + j .length; due = j .due }
+
 -- What planning sees of each row number of a day.
-abbrev pub jobs : Day → ℕ → Job
-jobs day = job (day .rows)
+abbrev pub jobs : (opening : ℕ) → Day → ℕ → Job
+jobs opening day i = withOpening opening (job (day .rows) i)
 
 -- The numbers from i on, n of them; and the numbers of all rows.
 unfoldable pub countFrom : ℕ → ℕ → List ℕ

@@ -49,6 +49,9 @@ impl Desk {
 
     pub const DUES: u32 = 20_000_000;
 
+    // The most opening minutes that a call is told.
+    pub const OPENING: u32 = 30;
+
     // A desk with nothing done yet stands at its free minute.
     pub fn at(free: u32) -> Desk
         ensures { λ r. ⌜ r ≡ deskAt free ⌝ }

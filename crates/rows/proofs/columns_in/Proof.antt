@@ -43,7 +43,7 @@ use denote.Triple.Clauses.{ensured, lasts}
 use borrow.Table.OneValue.{part-in}
 use borrow.Rule.Array.Init.{part-room}
 use Rattle.schedule.specs.Limits.{mostRows}
-use Rattle.rows.specs.InColumns.{InColumns}
+use Rattle.rows.specs.InColumns.{RowsInColumns}
 use Rattle.schedule.specs.declared.Row.{Row}
 use Rattle.book.specs.declared.Table.{Table}
 use Rattle.schedule.proofs.Row as T
@@ -141,10 +141,10 @@ module _ {M : Type 1} (𝓤 : URA M) (H : Heap 𝓤) (A : Atoms 𝓤) (W : Given
       move ! (1 ∷ []) $ frame ! $ nothing ! $ move ! (1 ∷ 0 ∷ []) $ fjoin ! $ done !
 
   g-said : (κ : Lft) (r : RefT (List Row)) (z : Columns) → ent 𝓤 (ensured 𝓤 H A g.ended (g.clauses 𝓤 H A mem run) (κ, tt) (r, tt) tt z)
-      (fact 𝓤 (InColumns (now r) z))
-  g-said κ r z = exE 𝓤 _ (λ ws. snd∗ 𝓤 (sem 𝓤 H A (lasts g.ended (κ, tt) (r, tt) ws)) (fact 𝓤 (InColumns (now r) z)))
+      (fact 𝓤 (RowsInColumns (now r) z))
+  g-said κ r z = exE 𝓤 _ (λ ws. snd∗ 𝓤 (sem 𝓤 H A (lasts g.ended (κ, tt) (r, tt) ws)) (fact 𝓤 (RowsInColumns (now r) z)))
 
-  exits : (z : Columns) (v : Val) → InColumns ps z → ent 𝓤 (⋆ 𝓤 H A (‵ (CT .own z (v ∷ [])) ∷ ‵ Owns ∷ [])) (Post v)
+  exits : (z : Columns) (v : Val) → RowsInColumns ps z → ent 𝓤 (⋆ 𝓤 H A (‵ (CT .own z (v ∷ [])) ∷ ‵ Owns ∷ [])) (Post v)
   exits z v e =
       qed W (‵ (CT .own z (v ∷ [])) ∷ ‵ Owns ∷ []) ∵
       suffices ! _ (ends-at 𝓤 H A f.ended stayed (f.clauses 𝓤 H A mem run) W ((tt, tt, tt, (t, tt), at), tt) v z (tt, tt)
@@ -186,7 +186,7 @@ module _ {M : Type 1} (𝓤 : URA M) (H : Heap 𝓤) (A : Atoms 𝓤) (W : Given
         use1 W (later
         (some (λ (z : Columns). (tok (α ∷ []) ⊛ ‵ (CT .own z (v ∷ []))) ⊛ raw
         (ensured 𝓤 H A g.ended (g.clauses 𝓤 H A mem run) (α ∷ [], tt) (r, tt) tt z)))) (id⊢ 𝓤 _) $ await ! tt $ pick ! (λ z.
-        split ! $ move ! (1 ∷ []) $ use1 W (raw (fact 𝓤 (InColumns (now r) z))) (g-said (α ∷ []) r z) $ heard ! (InColumns (now r) z)
+        split ! $ move ! (1 ∷ []) $ use1 W (raw (fact 𝓤 (RowsInColumns (now r) z))) (g-said (α ∷ []) r z) $ heard ! (RowsInColumns (now r) z)
         (λ e′. split ! $ move ! (1 ∷ []) $
         peeks ! CT (Is CT) (shows 𝓤 H A CT) z (v ∷ []) (λ ok′.
         land ! (from ! (stop !)) (init ! 10 refl (LL.lawful K.the-type K′.the-laws 𝓤 H A W .typed z _ ok′ .0)) $
@@ -197,7 +197,7 @@ module _ {M : Type 1} (𝓤 : URA M) (H : Heap 𝓤) (A : Atoms 𝓤) (W : Given
         returns ! (look ! 10 refl) $ forget ! 3 refl $ forget ! 5 refl $ forget ! 8 refl $ forget ! 10 refl $
         move ! (10 ∷ 11 ∷ []) $ free1 ! $ move ! (8 ∷ 9 ∷ []) $ free1 ! $ move ! (0 ∷ 7 ∷ []) $ free1 ! $ move !
         (4 ∷ 5 ∷ []) $ free1 ! $ move ! (2 ∷ 3 ∷ []) $ free1 ! $ free0 ! $
-        keep ! (1 ∷ 3 ∷ []) $ by ! (exits z v (subst (λ (zs : List Row). InColumns zs z) e e′)))))))))))))))))
+        keep ! (1 ∷ 3 ∷ []) $ by ! (exits z v (subst (λ (zs : List Row). RowsInColumns zs z) e e′)))))))))))))))))
 
 module _ {M : Type 1} (𝓤 : URA M) (H : Heap 𝓤) (A : Atoms 𝓤) (W : Given 𝓤 H A) (mem : Memory → SProp 𝓤) (run : Routine → Fun 𝓤) where
   f-walks : (C : Calls 𝓤 H) (Λ : Loops 𝓤 H) → FmC 𝓤 H (W .laws) C → Triple 𝓤 (C #rows·accepted-rows) (Hc 𝓤 H A mem run) → Triple 𝓤

@@ -60,7 +60,7 @@ use Rattle.schedule.specs.Rows.{noRow}
 use Rattle.schedule.proofs.Row as T
 use Rattle.schedule.proofs.Row.Laws as T′
 use Rattle.rows.specs.declared.Columns.{Columns}
-use Rattle.rows.specs.InColumns.{InColumns}
+use Rattle.rows.specs.InColumns.{RowsInColumns}
 use Rattle.rows.proofs.Laid.{Laid, noColumns, laid-none, withRow, laid-more, in-columns}
 use Rattle.rows.proofs.Lent.{R, CT, numbers-val, cells-in, cells-back}
 use Rattle.rows.proofs.Columns as K
@@ -227,7 +227,7 @@ module _ {M : Type 1} (𝓤 : URA M) (H : Heap 𝓤) (A : Atoms 𝓤) (W : Given
   zeros-typed : Holds (hasTy arr zero-val) × WT zero-val
   zeros-typed = array-lawful 𝓤 H A W u32 (uint-lawful 𝓤 H A W w32) rowPlaces .typed (replicate rowPlaces 0) _ zeros-are .0
 
-  exits : (c : Columns) (u : Val) → Is CT c (u ∷ []) → InColumns ys c → ent 𝓤 (⋆ 𝓤 H A (tok ∷ ‵ Own ∷ [])) (Post u)
+  exits : (c : Columns) (u : Val) → Is CT c (u ∷ []) → RowsInColumns ys c → ent 𝓤 (⋆ 𝓤 H A (tok ∷ ‵ Own ∷ [])) (Post u)
   exits c u is got =
       qed W (tok ∷ ‵ Own ∷ []) ∵
       suffices ! _ (ends-at 𝓤 H A f.ended stayed (f.clauses 𝓤 H A mem run) W (((κ, tt), (q, tt), tt, (s, tt), (sv ∷ [], tt)), tt) u c
@@ -380,7 +380,7 @@ module _ {M : Type 1} (𝓤 : URA M) (H : Heap 𝓤) (A : Atoms 𝓤) (W : Given
           (14 ∷ 15 ∷ []) $ free1 ! $ move ! (12 ∷ 13 ∷ []) $ free1 ! $ move ! (10 ∷ 11 ∷ []) $ free1 ! $ move !
           (8 ∷ 9 ∷ []) $ free1 ! $ move ! (6 ∷ 7 ∷ []) $ free1 ! $ move ! (4 ∷ 5 ∷ []) $ free1 ! $ move !
           (2 ∷ 3 ∷ []) $ free1 ! $ free0 ! $
-          by ! (exits d u ok (subst (InColumns ys) (sym e)
+          by ! (exits d u ok (subst (RowsInColumns ys) (sym e)
           (in-columns (subst (λ (zs : List Row). Laid zs (x .c)) (take-all (x .j) ys (nltb→le (x .j) (length ys) over))
           (x .got)))))))))))))
         where
