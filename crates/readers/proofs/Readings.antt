@@ -67,8 +67,8 @@ gives terms book told r e c columned o tested out f =
     (gives-tested (terms .opening) (ruleTests (terms .profile)) r c columned o tested (readWords book) e)
 
 -- Contents that are refused, as one answer tells.
-pub gives-refused : (opening : ℕ) (x : Contents) (r : Given) (n p : ℕ) → x ≡ refused n p → r .outcome ≡ Refused n p → Gives opening x r
-gives-refused opening x r n p e f = record {
+pub gives-refused : {opening : ℕ} (x : Contents) (r : Given) (n p : ℕ) → x ≡ refused n p → r .outcome ≡ Refused n p → Gives opening x r
+gives-refused x r n p e f = record {
   outcome = rw e f;
   free = λ day g. never (cc);
   count = λ day g. never (cc);
@@ -83,11 +83,11 @@ pub record Passes (opening : ℕ) (x : Contents) (r : Given) : Type 0 where
   pub count : r .count ≡ length (day .rows)
   pub columns : InColumns (jobs opening day) (length (day .rows)) (r .columns)
 
-pub given-passed : (opening : ℕ) (x : Contents) (r : Given) → Gives opening x r → r .outcome ≡ Passed → Passes opening x r
-given-passed opening (refused n p) r g e = let z = g .outcome in never (cc)
-given-passed opening (accepted day) r g e =
+pub given-passed : {opening : ℕ} (x : Contents) (r : Given) → Gives opening x r → r .outcome ≡ Passed → Passes opening x r
+given-passed (refused n p) r g e = let z = g .outcome in never (cc)
+given-passed (accepted day) r g e =
     record { day = day; contents = refl; free = g .free day refl; count = g .count day refl; columns = g .columns day refl }
 
-pub given-refused : (opening : ℕ) (x : Contents) (r : Given) (n p : ℕ) → Gives opening x r → r .outcome ≡ Refused n p → x ≡ refused n p
-given-refused opening (refused m q) r n p g e = let z = g .outcome in cc
-given-refused opening (accepted day) r n p g e = let z = g .outcome in never (cc)
+pub given-refused : {opening : ℕ} (x : Contents) (r : Given) (n p : ℕ) → Gives opening x r → r .outcome ≡ Refused n p → x ≡ refused n p
+given-refused (refused m q) r n p g e = let z = g .outcome in cc
+given-refused (accepted day) r n p g e = let z = g .outcome in never (cc)

@@ -27,7 +27,7 @@ unread-requires c κs = search needs
 returns : tie.Need-returns
 returns c =
     let a = c .before .before .before .args in
-    gives-refused (a .terms .opening) _ (c .unread .result) byRange 0 (untold-refused (a .terms) (now (a .book)) (omega arith))
+    gives-refused _ (c .unread .result) byRange 0 (untold-refused (a .terms) (now (a .book)) (omega arith))
     (c .unread .ensures)
 
 read-words-requires : tie.Need-read-words-requires

@@ -6,6 +6,9 @@ use Rattle.readers.specs.Reads.{readBy}
 use Rattle.row_calls.proofs.row_place.Statement.{statement}
 use Rattle.row_calls.proofs.row_place.Tie as tie
 
+without-opening-requires : tie.Need-without-opening-requires
+without-opening-requires c κs = search needs
+
 read-requires : tie.Need-read-requires
 read-requires c κs = search needs
 
@@ -15,9 +18,11 @@ place-among-requires c κs = search needs
 returns : tie.Need-returns
 returns c =
     let r = c .before in
-    let a = r .before .before .args in
+    let t = r .before in
+    let a = t .before .before .args in
     let g = r .read .ensures in
-    c .place-among .ensures (readBy (a .terms) (now (a .book))) (g .outcome) (g .count)
+    rw (← t .without-opening .ensures)
+    (c .place-among .ensures (readBy (t .without-opening .result) (now (a .book))) (g .outcome) (g .count))
 
 pub row-place-spec : {M : Type 1} → statement M
-row-place-spec = tie.close (tie.spec read-requires place-among-requires returns)
+row-place-spec = tie.close (tie.spec without-opening-requires read-requires place-among-requires returns)
