@@ -87,7 +87,7 @@ module _ (opening : ℕ) (day : Day) (few : length (day .rows) ≤ mostRows) (ws
 -- What the reader gave of an accepted book.
 module _ (opening : ℕ) (book : List ℕ) (r : Given) (g : Gives opening (readBy (orderingRule opening) book) r) (e : r .outcome ≡ Passed) where
   d : Passes opening (readBy (orderingRule opening) book) r
-  d = given-passed opening (readBy (orderingRule opening) book) r g e
+  d = given-passed (readBy (orderingRule opening) book) r g e
 
   pub given-sizes : (r .count ≤ mostRows) × (length (r .columns .release) ≡ rowPlaces) ×
       (length (r .columns .length) ≡ rowPlaces) × (length (r .columns .due) ≡ rowPlaces)

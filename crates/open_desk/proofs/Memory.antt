@@ -63,35 +63,35 @@ book-numbers (by-word n p f) = let h = wrong-numbered (f .wrong) in (h .0, omega
 book-numbers (disorder e day t k c) = (omega arith, omega arith)
 book-numbers (crossed e day t k c) = absurd (not-first-come e)
 
-module _ (book ws : List ℕ) where
+module _ (opening : ℕ) (book ws : List ℕ) where
   -- A refused opening leaves the words; another writes those of a desk, and leaves the words after them.
   abbrev OpenWrites : Outcome Said → Type 0
   OpenWrites o = Lent (λ n. (1 ≤ n) × (n ≤ 9)) ws o × (drop deskWords (o .buffer) ≡ drop deskWords ws)
 
-  written-past : (day : Day) → readBy orderingRule book ≡ accepted day → drop deskWords (written (openedWords day) ws) ≡ drop deskWords ws
+  written-past : (day : Day) → readBy (orderingRule opening) book ≡ accepted day → drop deskWords (written (openedWords opening day) ws) ≡ drop deskWords ws
   unfolding written
   written-past day e =
-      let long = opened-long day (accepted-day orderingRule book day e .few-rows) in
-      ap (λ (n : ℕ). drop n (openedWords day ++ drop (length (openedWords day)) ws)) (sym long) ∙
-      (drop-append-seam (openedWords day) (drop (length (openedWords day)) ws) ∙ ap (λ (n : ℕ). drop n ws) long)
+      let long = opened-long opening day (accepted-day (orderingRule opening) book day e .few-rows) in
+      ap (λ (n : ℕ). drop n (openedWords opening day ++ drop (length (openedWords opening day)) ws)) (sym long) ∙
+      (drop-append-seam (openedWords opening day) (drop (length (openedWords opening day)) ws) ∙ ap (λ (n : ℕ). drop n ws) long)
 
-  pub open-writes : OpenWrites (deskOpen book ws)
-  open-writes = step (readBy orderingRule book) refl
+  pub open-writes : OpenWrites (deskOpen opening book ws)
+  open-writes = step (readBy (orderingRule opening) book) refl
     where
-      room : (day : Day) → readBy orderingRule book ≡ accepted day → Dec (deskWords ≤ length ws) → OpenWrites (deskOpen book ws)
+      room : (day : Day) → readBy (orderingRule opening) book ≡ accepted day → Dec (deskWords ≤ length ws) → OpenWrites (deskOpen opening book ws)
       room day e (yes h) =
-          subst OpenWrites (sym (ap (told saidOpen) (open-yes book ws day e h))) (
-            lent-yes _ ws (written (openedWords day) ws) refl (opened-held day ws (accepted-day orderingRule book day e) h .2),
+          subst OpenWrites (sym (ap (told saidOpen) (open-yes opening book ws day e h))) (
+            lent-yes _ ws (written (openedWords opening day) ws) refl (opened-held opening day ws (accepted-day (orderingRule opening) book day e) h .2),
             written-past day e,
           )
       room day e (no h) =
-          subst OpenWrites (sym (ap (told saidOpen) (open-short book ws day e (omega arith))))
+          subst OpenWrites (sym (ap (told saidOpen) (open-short opening book ws day e (omega arith))))
           (lent-no byNarrow 0 ws (omega arith, omega arith), refl)
 
-      step : (x : Contents) → readBy orderingRule book ≡ x → OpenWrites (deskOpen book ws)
+      step : (x : Contents) → readBy (orderingRule opening) book ≡ x → OpenWrites (deskOpen opening book ws)
       step (refused n p) e =
-          subst OpenWrites (sym (ap (told saidOpen) (open-no book ws n p e)))
-          (lent-no n p ws (book-numbers (book-refused orderingRule book n p .0 e)), refl)
+          subst OpenWrites (sym (ap (told saidOpen) (open-no opening book ws n p e)))
+          (lent-no n p ws (book-numbers (book-refused (orderingRule opening) book n p .0 e)), refl)
       step (accepted day) e = room day e (decLe deskWords (length ws))
 
 -- # A start

@@ -35,7 +35,7 @@ returns c =
     let a = entry r .args in
     let g = c .before .outcome .given in
     sym (open-no (a .opening) (now (a .book)) (a .desk .now) (g .0 .0) (g .0 .1 .0)
-    (given-refused (a .opening) _ (r .read .result) (g .0 .0) (g .0 .1 .0) (given r) (g .1)))
+    (given-refused _ (r .read .result) (g .0 .0) (g .0 .1 .0) (given r) (g .1)))
 
 enum-told : tie.Need-enum-told
 enum-told c = search needs
