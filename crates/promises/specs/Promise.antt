@@ -31,7 +31,7 @@ use Rattle.outcomes.specs.Planning.{Outcome, gives, nth, Planning}
 use Rattle.calls.specs.Answers.{Said, saidNo}
 use Rattle.calls.specs.Calls.{planned}
 use Rattle.promises.specs.Vocabulary.{saidCount, saidPair, saidJudged, saidAt, Refuses, listed, ReaderOrder, endBy, lateBy, pairBy}
-use Rattle.promises.specs.Vocabulary.{list, bound, plan, verdict, place, words, NoneBeats, EndsSooner, LessLate, Takes}
+use Rattle.promises.specs.Vocabulary.{list, bound, plan, verdict, place, words, NoneBeats, EndsSooner, LessLate, Accepts, Takes}
 use Rattle.promises.specs.Table.{Turned, ListTurned, BoundTurned, PlanTurned, VerdictTurned, RowTurned}
 
 -- # 1. The lent memory

@@ -8,6 +8,7 @@ use mathlib.Core.List.{List}
 use lib.ListN.{length, List·getD-eq-default}
 use Rattle.schedule.specs.Limits.{mostRows, latestMinute, longestLength, longestTime, latestDue}
 use Rattle.schedule.specs.declared.Row.{Row}
+use Rattle.schedule.specs.declared.Profile.{Profile}
 use Rattle.schedule.specs.Rows.{noRow, job, Day, jobs, rowNumbers}
 use Rattle.schedule.specs.Ranges.{Ranged}
 use Rattle.schedule.proofs.Numbers.{length-count}
@@ -37,9 +38,12 @@ limits rows h (suc i) = go (decLe (suc i) (length rows))
         ((omega arith, omega arith, omega arith))
 
 -- An accepted book passed tests 1 to 7.
-pub read-words-gave : (terms : Terms) (book : List ℕ) (day : Day) → readBy terms book ≡ accepted day → readWords book ≡ accepted day
+pub words-gave : (profile : Profile) (book : List ℕ) (day : Day) → readFor profile book ≡ accepted day → readWords book ≡ accepted day
 unfolding readFor
-read-words-gave terms book day e = tested-contents (ruleTests (terms .profile)) (readWords book) day (accepted-for terms book day e)
+words-gave profile book = tested-contents (ruleTests profile) (readWords book)
+
+pub read-words-gave : (terms : Terms) (book : List ℕ) (day : Day) → readBy terms book ≡ accepted day → readWords book ≡ accepted day
+read-words-gave terms book day e = words-gave (terms .profile) book day (accepted-for terms book day e)
 
 pub accepted-day : DaysAccepted
 unfolding readFor
