@@ -9,6 +9,7 @@ use mathlib.Core.List.{List, _++_}
 use mathlib.Core.Logic.{_⊎_, inl, inr}
 use lib.ListN.{length, drop, getD}
 use lib.Seq.{drop-append-seam}
+use Rattle.schedule.specs.Limits.{mostOpening}
 use Rattle.schedule.specs.declared.Profile.{Profile}
 use Rattle.schedule.specs.declared.Profile.the-variants.{Ordering, FirstCome}
 use Rattle.schedule.specs.Offset.{raised}
@@ -17,13 +18,14 @@ use Rattle.refusals.specs.Refusals.{byNarrow, byRange}
 use Rattle.book.specs.Rows.{Contents, refused, accepted}
 use Rattle.readers.specs.Reads.{orderingRule, readBy}
 use Rattle.readers.proofs.Accepted.{accepted-day}
+use Rattle.readers.proofs.Told.{told-reads, untold-refused}
 use Rattle.results.specs.Results.{written}
 use Rattle.outcomes.specs.Planning.{Outcome, gives}
 use Rattle.calls.specs.Answers.{Said, saidNo}
 use Rattle.promises.specs.Vocabulary.{told}
 use Rattle.promises.specs.Promise.{Lent}
 use Rattle.promises.specs.Table.{BookRefused, by-word, disorder, crossed}
-use Rattle.promises.proofs.Accepted.{book-refused}
+use Rattle.promises.proofs.Accepted.{refusal-is, book-refused}
 use Rattle.promises.proofs.Numbers.{wrong-numbered}
 use Rattle.running.specs.Running.{Running, endAt, worstAt}
 use Rattle.running.specs.Words.{deskWords, running, marks, isDesk, movedWords}
@@ -63,6 +65,16 @@ book-numbers (by-word n p f) = let h = wrong-numbered (f .wrong) in (h .0, omega
 book-numbers (disorder e day t k c) = (omega arith, omega arith)
 book-numbers (crossed e day t k c) = absurd (not-first-come e)
 
+-- Before the words are looked at an opening is refused by its minutes, which tells 3, or by the book.
+read-numbers : (opening : ℕ) (book : List ℕ) (n p : ℕ) → readBy (orderingRule opening) book ≡ refused n p → (1 ≤ n) × (n ≤ 9)
+read-numbers opening book n p e = step (decLe opening mostOpening)
+  where
+    step : Dec (opening ≤ mostOpening) → (1 ≤ n) × (n ≤ 9)
+    step (yes h) = book-numbers (book-refused Ordering book n p .0 (sym (told-reads (orderingRule opening) book h) ∙ e))
+    step (no h) =
+        let three = refusal-is (sym (untold-refused (orderingRule opening) book (omega arith)) ∙ e) .0 in
+        (omega (arith, three), omega (arith, three))
+
 module _ (opening : ℕ) (book ws : List ℕ) where
   -- A refused opening leaves the words; another writes those of a desk, and leaves the words after them.
   abbrev OpenWrites : Outcome Said → Type 0
@@ -91,7 +103,7 @@ module _ (opening : ℕ) (book ws : List ℕ) where
       step : (x : Contents) → readBy (orderingRule opening) book ≡ x → OpenWrites (deskOpen opening book ws)
       step (refused n p) e =
           subst OpenWrites (sym (ap (told saidOpen) (open-no opening book ws n p e)))
-          (lent-no n p ws (book-numbers (book-refused (orderingRule opening) book n p .0 e)), refl)
+          (lent-no n p ws (read-numbers opening book n p e), refl)
       step (accepted day) e = room day e (decLe deskWords (length ws))
 
 -- # A start

@@ -31,7 +31,7 @@ use Rattle.promises.specs.Vocabulary.{told, saidCount, Refuses, listed, ReaderO
 use Rattle.promises.specs.Table.{ListTurned, PlanTurned}
 use Rattle.promises.specs.Table as table
 use Rattle.promises.specs.Promise.{Covered, PlanOrders}
-use Rattle.promises.proofs.Accepted.{accepts}
+use Rattle.promises.proofs.Accepted.{takes}
 use Rattle.promises.proofs.Kept.{list-front, covered, plan-orders}
 use Rattle.promises.proofs.Memory as memory
 use Rattle.running.specs.Running.{Running, jobIn, startTests, endAt, worstAt}
@@ -285,7 +285,7 @@ module _ (opening : ℕ) (day : Day) (a : AcceptedDay (orderingRule opening) day
 pub open-desk : OpenDesk
 open-desk opening book ws day taken wide =
     let terms = orderingRule opening in
-    let reads = accepts terms book day .1 taken in
+    let reads = takes terms book day .1 taken in
     let a = accepted-day terms book day reads in
     let opens = open-yes opening book ws day reads wide in
     let h = opened-held opening day ws a wide in
