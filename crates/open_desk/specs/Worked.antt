@@ -34,11 +34,12 @@ abbrev pub _gets_ : Call → Outcome Said → Asked
 c gets r = record { call = c; reply = r }
 
 infix 10 _gets_
--- A morning: the book, the reply to its opening, the calls in turn, and what the desk then holds: the rows left, its minute, and the
--- worst lateness so far.
+-- A morning: the book and the opening minutes that a desk is opened with, what that is told, the calls in turn, and what the desk then
+-- holds: the rows left, its minute, and the worst lateness so far.
 pub record Morning : Type 0 where
   pub book : List ℕ
-  pub opening : Outcome Said
+  pub opening : ℕ
+  pub told : Outcome Said
   pub calls : List Asked
   pub holds : List ℕ × ℕ × Option ℤ
 
@@ -76,11 +77,12 @@ answered ws (a ∷ rest) = (a .call gets replyTo ws (a .call)) ∷ answered (aft
 -- A morning as the definitions give it, on 1,288 words that are all 0 before the opening.
 abbrev pub workedOut : Morning → Morning
 workedOut m =
-    let first = deskOpen (m .book) (replicate deskWords 0) in
+    let first = deskOpen (m .opening) (m .book) (replicate deskWords 0) in
     let last = running (after (first .buffer) (map (λ (a : Asked). a .call) (m .calls))) in
     record {
       book = m .book;
-      opening = gives (first .answer) [];
+      opening = m .opening;
+      told = gives (first .answer) [];
       calls = answered (first .buffer) (m .calls);
       holds = (last .left, last .minute, last .worst);
     }
@@ -109,7 +111,8 @@ mornings =
     -- Row 1 starts at its release; of two plans one is left. After the last row there are no plans: every plan's number is refused.
     record {
       book = twoRows 12;
-      opening = opened 2 0;
+      opening = 0;
+      told = opened 2 0;
       calls =
           (lists (0 ∷ 0 ∷ 0 ∷ 0 ∷ []) gets plans 2 (11 ∷ 6 ∷ 12 ∷ 0 ∷ [])) ∷
           (starts 1 1 gets moved 2 (negsuc 2)) ∷
@@ -126,7 +129,8 @@ mornings =
     -- The desk stands idle before a start, as long as the reader likes; the list goes on from the end of that row.
     record {
       book = twoRows 12;
-      opening = opened 2 0;
+      opening = 0;
+      told = opened 2 0;
       calls =
           (starts 2 4 gets moved 14 (pos 2)) ∷
           (lists (0 ∷ 0 ∷ []) gets plans 1 (15 ∷ 10 ∷ [])) ∷
@@ -138,7 +142,8 @@ mornings =
     -- minute; before the desk's minute. The desk goes on as if they had not been called.
     record {
       book = twoRows 12;
-      opening = opened 2 0;
+      opening = 0;
+      told = opened 2 0;
       calls =
           (starts 0 0 gets refused 11 2 []) ∷
           (starts 3 0 gets refused 11 2 []) ∷
@@ -156,13 +161,15 @@ mornings =
     -- Early work: the worst lateness so far is none, then -3, then -1. The row left keeps its number.
     record {
       book = equalRows;
-      opening = opened 2 0;
+      opening = 0;
+      told = opened 2 0;
       calls = [];
       holds = (1 ∷ 2 ∷ [], 0, none);
     } ∷
     record {
       book = equalRows;
-      opening = opened 2 0;
+      opening = 0;
+      told = opened 2 0;
       calls =
           (starts 1 0 gets moved 2 (negsuc 2)) ∷
           (lists (0 ∷ 0 ∷ []) gets plans 1 (4 ∷ 4294967295 ∷ [])) ∷
@@ -174,7 +181,8 @@ mornings =
     -- The list has the latenesses of the rows left alone: -2, where the worst so far is 6 and stays so.
     record {
       book = threeRows;
-      opening = opened 3 0;
+      opening = 0;
+      told = opened 3 0;
       calls =
           (starts 2 0 gets moved 10 (negsuc 1)) ∷
           (starts 1 10 gets moved 11 (pos 6)) ∷
@@ -187,7 +195,8 @@ mornings =
     -- one in an order. A plan's number is looked at before the buffer.
     record {
       book = fourRows;
-      opening = opened 4 0;
+      opening = 0;
+      told = opened 4 0;
       calls =
           (lists (0 ∷ 0 ∷ 0 ∷ 0 ∷ 0 ∷ 0 ∷ 0 ∷ []) gets refused 9 0 (0 ∷ 0 ∷ 0 ∷ 0 ∷ 0 ∷ 0 ∷ 0 ∷ [])) ∷
           (lists (0 ∷ 0 ∷ 0 ∷ 0 ∷ 0 ∷ 0 ∷ 0 ∷ 0 ∷ []) gets plans 2 (121 ∷ 17 ∷ 122 ∷ 0 ∷ 0 ∷ 0 ∷ 0 ∷ 0 ∷ [])) ∷
@@ -208,7 +217,8 @@ mornings =
     -- Past minute 20,000,000: the latest start of the longest row. The list goes on; no further row can be started.
     record {
       book = longRows;
-      opening = opened 2 10000000;
+      opening = 0;
+      told = opened 2 10000000;
       calls =
           (starts 1 20000000 gets moved 20030000 (pos 20030000)) ∷
           (lists (0 ∷ 0 ∷ []) gets plans 1 (20060000 ∷ 20060000 ∷ [])) ∷
@@ -221,14 +231,16 @@ mornings =
     -- A class due: row 1 is due 75.
     record {
       book = classRow;
-      opening = opened 1 0;
+      opening = 0;
+      told = opened 1 0;
       calls = (starts 1 10 gets moved 15 (negsuc 59)) ∷ [];
       holds = ([], 15, some (negsuc 59));
     } ∷
     -- M8's book is refused: nothing is written, and the words are no desk.
     record {
       book = twoRows 14;
-      opening = refused 8 6 [];
+      opening = 0;
+      told = refused 8 6 [];
       calls =
           (starts 1 1 gets refused 3 0 []) ∷
           (lists (7 ∷ []) gets refused 3 0 (7 ∷ [])) ∷
