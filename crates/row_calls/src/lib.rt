@@ -35,7 +35,13 @@ fn place_among(outcome: Tested, count: usize, row: u32) -> RowPlace
 pub fn row_place(profile: Profile, book: &[u32], row: u32) -> RowPlace
     ensures { λ r. ⌜ r ≡ placeCall profile (now (book .entry)) row ⌝ }
 {
-    let given = readers::read(Terms::without_opening(profile), book);
+    let given = readers::read(
+        Terms {
+            profile: profile,
+            opening: 0,
+        },
+        book,
+    );
     let outcome = given.outcome;
     place_among(outcome, given.count, row)
 }

@@ -10,7 +10,7 @@ use Rattle.schedule.specs.declared.Profile.{Profile}
 use Rattle.schedule.specs.Rows.{withOpening}
 use Rattle.schedule.specs.Desk.{endOf, idleOf, lengthsOf}
 use Rattle.schedule.specs.Picks.{outranks}
-use Rattle.schedule.specs.Arrival.{comesBefore}
+use Rattle.schedule.specs.Arrival.{byArrival}
 use Rattle.schedule.specs.Profiles.{Obeys}
 
 module _ (opening : ℕ) (job : ℕ → Job) where
@@ -27,7 +27,7 @@ module _ (opening : ℕ) (job : ℕ → Job) where
     -- Ranks do not count opening either: equal picks are decided by due, then release plus length, then row, of the rows' own. Nor does
     -- the order by arrival.
     pub rank : (i j : ℕ) → outranks openedJob i j ≡ outranks job i j
-    pub arrival : (i j : ℕ) → comesBefore openedJob i j ≡ comesBefore job i j
+    pub arrival : (left : List ℕ) → byArrival openedJob left ≡ byArrival job left
     -- Idle plus openings plus lengths is end minus the minute at the start: of an order of n rows, openings are n times the opening.
     pub sum : (t n : ℕ) (order : List ℕ) → length order ≡ n →
         t + (idleOf openedJob t order + n * opening + lengthsOf job order) ≡ endOf openedJob t order

@@ -2,12 +2,9 @@
 -- Assumes nothing.
 use denote.Ref.{now}
 use borrow.Author.Needs.{needs}
-use Rattle.readers.specs.Reads.{readBy}
+use Rattle.readers.specs.Reads.{withoutOpening, readBy}
 use Rattle.row_calls.proofs.row_place.Statement.{statement}
 use Rattle.row_calls.proofs.row_place.Tie as tie
-
-without-opening-requires : tie.Need-without-opening-requires
-without-opening-requires c κs = search needs
 
 read-requires : tie.Need-read-requires
 read-requires c κs = search needs
@@ -18,11 +15,9 @@ place-among-requires c κs = search needs
 returns : tie.Need-returns
 returns c =
     let r = c .before in
-    let t = r .before in
-    let a = t .before .before .args in
+    let a = r .before .before .args in
     let g = r .read .ensures in
-    rw (← t .without-opening .ensures)
-    (c .place-among .ensures (readBy (t .without-opening .result) (now (a .book))) (g .outcome) (g .count))
+    c .place-among .ensures (readBy (withoutOpening (a .profile)) (now (a .book))) (g .outcome) (g .count)
 
 pub row-place-spec : {M : Type 1} → statement M
-row-place-spec = tie.close (tie.spec without-opening-requires read-requires place-among-requires returns)
+row-place-spec = tie.close (tie.spec read-requires place-among-requires returns)
