@@ -2,7 +2,7 @@
 -- Assumes nothing.
 use Prim.Native.Nat.{ℕ, suc, _+_, _≤_, _<_}
 use native.Mathlib.Omega.{arith}
-use mathlib.Core.Path.{_≡_, refl, sym, ap, _∙_}
+use mathlib.Core.Path.{_≡_, sym, ap, _∙_}
 use mathlib.Core.List.{List, [], _∷_, map}
 use lib.ListN.{length, take, drop, replicate, length-map, length-drop}
 use lib.Seq.{ext-getD, length-take-le, getD-take, getD-drop}
@@ -78,14 +78,16 @@ module _ (opening : ℕ) (day : Day) (few : length (day .rows) ≤ mostRows) (ws
   unfolding openedWords
   day-put release minutes due p q r same headed dued timed released h d l e =
       let a = h ∙ ap (λ (m : ℕ). written (put 0 (m ∷ day .free ∷ 0 ∷ opening ∷ []) (replicate deskWords 0)) ws) (sym count) in
-      let b = column-put dueOf due r (λ i g k x. same i g k x .due) dues (withHead opening day) (dues-room opening day few) headed dued a d in
-      let c = column-put (timeOf opening) minutes q (λ i g k x. same i g k x .length) times (withDues opening day) (times-room opening day few) dued
-      timed b l in
-      column-put releaseOf release p (λ i g k x. same i g k x .release) releases (withTimes opening day) (releases-room opening day few) timed
-      released c e
+      let b = column-put dueOf due r (λ i g k x. same i g k x .due) dues (withHead opening day) (dues-room opening day few)
+      headed dued a d in
+      let c = column-put (timeOf opening) minutes q (λ i g k x. same i g k x .length) times (withDues opening day)
+      (times-room opening day few) dued timed b l in
+      column-put releaseOf release p (λ i g k x. same i g k x .release) releases (withTimes opening day)
+      (releases-room opening day few) timed released c e
 
 -- What the reader gave of an accepted book.
-module _ (opening : ℕ) (book : List ℕ) (r : Given) (g : Gives opening (readBy (orderingRule opening) book) r) (e : r .outcome ≡ Passed) where
+module _ (opening : ℕ) (book : List ℕ) (r : Given) (g : Gives opening (readBy (orderingRule opening) book) r)
+    (e : r .outcome ≡ Passed) where
   d : Passes opening (readBy (orderingRule opening) book) r
   d = given-passed (readBy (orderingRule opening) book) r g e
 
@@ -99,7 +101,8 @@ module _ (opening : ℕ) (book : List ℕ) (r : Given) (g : Gives opening (readB
   open-narrow ws h = sym (open-short opening book ws (d .day) (d .contents) h)
 
   pub open-done : (ws : List ℕ) → deskWords ≤ length ws → (new : List ℕ) →
-      ((rows : List Row) → length rows ≡ r .count → ((i : ℕ) → 1 ≤ i → i ≤ r .count → jobsOf (r .columns) i ≡ withOpening opening (job rows i)) →
+      ((rows : List Row) → length rows ≡ r .count →
+      ((i : ℕ) → 1 ≤ i → i ≤ r .count → jobsOf (r .columns) i ≡ withOpening opening (job rows i)) →
       new ≡ written (openedWords opening (record { free = r .free; rows = rows })) ws) →
       gives (open-answer.Opened (r .count) (r .free)) new ≡ openCall opening book ws
   open-done ws wide new puts =

@@ -13,7 +13,7 @@ use lib.ListN.{List·getD-append}
 use lib.Seq.{ext-getD}
 use Rattle.schedule.specs.Limits.{mostRows}
 use Rattle.schedule.specs.declared.Row.{Row}
-use Rattle.schedule.specs.Rows.{noRow, row, jobOf, Day, withOpening, jobs, countFrom}
+use Rattle.schedule.specs.Rows.{noRow, row, Day, jobs, countFrom}
 use Rattle.schedule.specs.Columns.{at}
 use Rattle.schedule.proofs.Numbers.{from-mem}
 use Rattle.rows.proofs.Laid.{releaseOf, dueOf}
@@ -49,7 +49,7 @@ abbrev pub timeOf : (opening : ℕ) → Row → ℕ
 timeOf opening r = opening + r .length
 
 -- The words as they are put one column after another.
-abbrev pub headOf : (opening : ℕ) → Day → List ℕ
+abbrev headOf : (opening : ℕ) → Day → List ℕ
 headOf opening day = length (day .rows) ∷ day .free ∷ 0 ∷ opening ∷ []
 
 abbrev pub withHead : (opening : ℕ) → Day → List ℕ
@@ -172,25 +172,25 @@ rows-are opening day ws count same =
 
 -- The same in a run that holds them at its start.
 module _ (opening : ℕ) (day : Day) (b : List ℕ) (a : AcceptedDay (orderingRule opening) day) (wide : deskWords ≤ length b) where
+  abbrev words : List ℕ
+  words = openedWords opening day
+
   abbrev new : List ℕ
-  new = written (openedWords opening day) b
+  new = written words b
 
   abbrev n : ℕ
   n = length (day .rows)
 
+  long : length words ≡ deskWords
+  long = opened-long opening day (a .few-rows)
+
   same-length : length new ≡ length b
   unfolding written
-  same-length =
-      omega (
-        arith,
-        length-append (openedWords opening day) (drop (length (openedWords opening day)) b),
-        length-drop (length (openedWords opening day)) b,
-        opened-long opening day (a .few-rows),
-      )
+  same-length = omega (arith, length-append words (drop (length words) b), length-drop (length words) b, long)
 
-  at-new : (k : ℕ) → k < deskWords → at new k ≡ at (openedWords opening day) k
+  at-new : (k : ℕ) → k < deskWords → at new k ≡ at words k
   unfolding written
-  at-new k h = List·getD-append (openedWords opening day) (drop (length (openedWords opening day)) b) 0 k (omega (arith, opened-long opening day (a .few-rows)))
+  at-new k h = List·getD-append words (drop (length words) b) 0 k (omega (arith, long))
 
   count-is : countIn new ≡ n
   count-is = at-new 0 (omega arith) ∙ count-at opening day (a .few-rows)

@@ -26,7 +26,7 @@ use Rattle.desk_start.proofs.StartLaws.{start-no, start-yes}
 use Rattle.open_desk.specs.Answers.{saidStart}
 use Rattle.open_desk.specs.History.{deskStart, Call, starts, lists, orders, afterCall, after, Start, withStart, withCall}
 use Rattle.open_desk.specs.History.{acceptedStarts, asCall, standing}
-use Rattle.open_desk.proofs.Standing.{Numbers, seen-length, at-first, one-more}
+use Rattle.open_desk.proofs.Standing.{OfDay, seen-length, at-first, one-more}
 use Rattle.open_desk.proofs.Memory.{start-writes}
 use Rattle.open_desk.proofs.Starts.{Found, refuses, passes, found}
 
@@ -83,23 +83,23 @@ module _ (opening : ℕ) (day : Day) where
         abbrev new : List ℕ
         new = movedWords ws i (endAt (running ws) i m) (raised (worstAt (running ws) i m))
 
-        -- The row is one of the day's.
-        listed : Numbers day i
-        listed =
+        pub of-day : OfDay day i
+        of-day =
             let may = may-start (running ws) i m passed in
             omega (arith, may .listed, ap (λ (d : Running). length (d .rows)) (s .held), seen-length opening day)
 
         held : running new ≡ standing opening day (done ++ (next ∷ []))
         held =
             moved-held ws (s .desk) i m passed .1 ∙
-            (ap (λ (d : Running). moved d i m) (s .held) ∙ sym (one-more opening day done i m listed))
+            (ap (λ (d : Running). moved d i m) (s .held) ∙ sym (one-more opening day done i m of-day))
 
         -- One row fewer is left, and the desk stands at 20,030,030 at the latest.
         fewer : suc (length (standing opening day (done ++ (next ∷ [])) .left)) ≡ length (standing opening day done .left)
         fewer =
             let may = may-start (running ws) i m passed in
             let there = subst (λ (d : Running). List·Memᴰ i (d .left)) (s .held) (stands-mem i (running ws .left) (may .left)) in
-            ap (λ (d : Running). suc (length (d .left))) (one-more opening day done i m listed) ∙ sym (length-without i (standing opening day done .left) there)
+            ap (λ (d : Running). suc (length (d .left))) (one-more opening day done i m of-day) ∙
+            sym (length-without i (standing opening day done .left) there)
 
         pub moves : State opening day (done ++ (next ∷ [])) new
         moves =

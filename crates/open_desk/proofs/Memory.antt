@@ -76,11 +76,14 @@ read-numbers opening book n p e = step (decLe opening mostOpening)
         (omega (arith, three), omega (arith, three))
 
 module _ (opening : ℕ) (book ws : List ℕ) where
+  abbrev Reads : Contents → Type 0
+  Reads x = readBy (orderingRule opening) book ≡ x
+
   -- A refused opening leaves the words; another writes those of a desk, and leaves the words after them.
   abbrev OpenWrites : Outcome Said → Type 0
   OpenWrites o = Lent (λ n. (1 ≤ n) × (n ≤ 9)) ws o × (drop deskWords (o .buffer) ≡ drop deskWords ws)
 
-  written-past : (day : Day) → readBy (orderingRule opening) book ≡ accepted day → drop deskWords (written (openedWords opening day) ws) ≡ drop deskWords ws
+  written-past : (day : Day) → Reads (accepted day) → drop deskWords (written (openedWords opening day) ws) ≡ drop deskWords ws
   unfolding written
   written-past day e =
       let long = opened-long opening day (accepted-day (orderingRule opening) book day e .few-rows) in
@@ -90,17 +93,18 @@ module _ (opening : ℕ) (book ws : List ℕ) where
   pub open-writes : OpenWrites (deskOpen opening book ws)
   open-writes = step (readBy (orderingRule opening) book) refl
     where
-      room : (day : Day) → readBy (orderingRule opening) book ≡ accepted day → Dec (deskWords ≤ length ws) → OpenWrites (deskOpen opening book ws)
+      room : (day : Day) → Reads (accepted day) → Dec (deskWords ≤ length ws) → OpenWrites (deskOpen opening book ws)
       room day e (yes h) =
           subst OpenWrites (sym (ap (told saidOpen) (open-yes opening book ws day e h))) (
-            lent-yes _ ws (written (openedWords opening day) ws) refl (opened-held opening day ws (accepted-day (orderingRule opening) book day e) h .2),
+            lent-yes _ ws (written (openedWords opening day) ws) refl
+                (opened-held opening day ws (accepted-day (orderingRule opening) book day e) h .2),
             written-past day e,
           )
       room day e (no h) =
           subst OpenWrites (sym (ap (told saidOpen) (open-short opening book ws day e (omega arith))))
           (lent-no byNarrow 0 ws (omega arith, omega arith), refl)
 
-      step : (x : Contents) → readBy (orderingRule opening) book ≡ x → OpenWrites (deskOpen opening book ws)
+      step : (x : Contents) → Reads x → OpenWrites (deskOpen opening book ws)
       step (refused n p) e =
           subst OpenWrites (sym (ap (told saidOpen) (open-no opening book ws n p e)))
           (lent-no n p ws (read-numbers opening book n p e), refl)

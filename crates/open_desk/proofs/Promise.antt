@@ -17,7 +17,6 @@ use Rattle.schedule.specs.Rows.{Day, jobs, rowNumbers, stands}
 use Rattle.schedule.proofs.Numbers.{count-range}
 use Rattle.schedule.proofs.Ranges.{in-range}
 use Rattle.refusals.specs.declared.Tested.the-variants.{Passed}
-use Rattle.book.specs.Rows.{accepted}
 use Rattle.readers.specs.Accepted.{AcceptedDay}
 use Rattle.readers.specs.Reads.{orderingRule}
 use Rattle.readers.proofs.Accepted.{accepted-day}
@@ -50,9 +49,9 @@ use Rattle.open_desk.specs.History.{deskOpen, deskStart, deskList, deskP
 use Rattle.open_desk.specs.History.{endOfStart, latenessOfStart, standing}
 use Rattle.open_desk.specs.Table.{StartTurned, CanPlan, DeskTurned, no-desk, by-call}
 use Rattle.open_desk.specs.Promise.{DeskProperty1, DeskProperty2, AfterCalls, OpenDesk}
-use Rattle.open_desk.proofs.Standing.{Numbers, job-held, seen-length, worst-told, end-told}
+use Rattle.open_desk.proofs.Standing.{job-held, worst-told, end-told}
 use Rattle.open_desk.proofs.Starts.{Found, refuses, passes, found}
-use Rattle.open_desk.proofs.Histories.{alone, State, first, leaves}
+use Rattle.open_desk.proofs.Histories.{alone, State, first, of-day, leaves}
 use Rattle.open_desk.proofs.Refused as refused
 use Rattle.open_desk.proofs.Memory.{open-writes, start-writes}
 
@@ -214,15 +213,10 @@ module _ (opening : ℕ) (day : Day) (a : AcceptedDay (orderingRule opening) day
       deskStart words i m .answer ≡ saidMoved (endOfStart opening day s) (worstOf (map (latenessOfStart opening day) (done ++ (s ∷ []))))
   start-moves i m accepted-it =
       let passed = has-passed i m accepted-it in
-      let of-day : Numbers day i = omega (
-        arith,
-        may-start (running words) i m passed .listed,
-        ap (λ (d : Running). length (d .rows)) (s .held),
-        seen-length opening day,
-      ) in
+      let row = of-day opening day done words s i m passed in
       ap (λ o. saidStart (o .answer)) (start-yes words i m desk passed) ∙
       (ap (λ (d : Running). saidMoved (endAt d i m) (worstAt d i m)) (s .held) ∙
-      (λ x. saidMoved (end-told opening day done i m of-day x) (worst-told opening day done i m of-day x)))
+      (λ x. saidMoved (end-told opening day done i m row x) (worst-told opening day done i m row x)))
 
   none-past : latestStart < now-held .minute → (i m : ℕ) → ¬ (deskStart words i m .answer .number ≡ 0)
   none-past late i m accepted-it =

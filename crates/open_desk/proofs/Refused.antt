@@ -12,7 +12,7 @@ use Rattle.schedule.specs.Desk.{Pair}
 use Rattle.schedule.specs.Rows.{Day}
 use Rattle.schedule.proofs.Tests.{false-is-true}
 use Rattle.refusals.specs.Refusals.{byRange, byNarrow, byUnlisted}
-use Rattle.book.specs.Rows.{refused, accepted}
+use Rattle.book.specs.Rows.{accepted}
 use Rattle.readers.specs.Reads.{orderingRule, readBy}
 use Rattle.outcomes.specs.Planning.{Planning}
 use Rattle.outcomes.specs.Outcomes.{planOutcome}

@@ -20,11 +20,11 @@ use Rattle.running.specs.Running.{rowsSeen, opened, noJob, jobIn, worse, endAt,
 use Rattle.desk_open.proofs.Opened.{mapped-at}
 use Rattle.open_desk.specs.History.{Start, endOfStart, latenessOfStart, minuteAfter, notTaken, worstSoFar, standing}
 
--- A number that a row of the day has. What planning sees of the row is the same on the desk as of the day.
-abbrev pub Numbers : Day → ℕ → Type 0
-Numbers day i = (1 ≤ i) × (i ≤ length (day .rows))
+-- Row i is one of the day's. What planning sees of it is the same on the desk as of the day.
+abbrev pub OfDay : Day → ℕ → Type 0
+OfDay day i = (1 ≤ i) × (i ≤ length (day .rows))
 
-pub job-held : (opening : ℕ) (day : Day) (i : ℕ) → Numbers day i → jobIn (rowsSeen opening day) i ≡ jobs opening day i
+pub job-held : (opening : ℕ) (day : Day) (i : ℕ) → OfDay day i → jobIn (rowsSeen opening day) i ≡ jobs opening day i
 job-held opening day zero h = let z : ⊥ = omega arith in absurd z
 job-held opening day (suc i) h = mapped-at _ (day .rows) i noJob (omega arith)
 
@@ -112,13 +112,13 @@ module _ (opening : ℕ) (day : Day) where
   worst-some [] s = refl
   worst-some (r ∷ rs) s = refl
 
-  pub worst-told : (done : List Start) (i m : ℕ) → Numbers day i →
+  pub worst-told : (done : List Start) (i m : ℕ) → OfDay day i →
       worstAt (standing opening day done) i m ≡ worstOf (map (latenessOfStart opening day) (done ++ (record { row = i; minute = m } ∷ [])))
   worst-told done i m h =
       let s : Start = record { row = i; minute = m } in
       rw (job-held opening day i h) (Option·some-injective _ _ (sym (worst-on done s) ∙ worst-some done s))
 
-  pub end-told : (done : List Start) (i m : ℕ) → Numbers day i →
+  pub end-told : (done : List Start) (i m : ℕ) → OfDay day i →
       endAt (standing opening day done) i m ≡ endOfStart opening day (record { row = i; minute = m })
   end-told done i m h = rw (job-held opening day i h)
 
@@ -128,7 +128,7 @@ module _ (opening : ℕ) (day : Day) where
   minute-on t (r ∷ rs) s = minute-on (endOfStart opening day r) rs s
 
   -- A desk after starts, and the row i started on it at the minute m.
-  pub one-more : (done : List Start) (i m : ℕ) → Numbers day i →
+  pub one-more : (done : List Start) (i m : ℕ) → OfDay day i →
       standing opening day (done ++ (record { row = i; minute = m } ∷ [])) ≡ moved (standing opening day done) i m
   one-more done i m h =
       let s : Start = record { row = i; minute = m } in

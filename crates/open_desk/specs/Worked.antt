@@ -34,7 +34,7 @@ abbrev pub _gets_ : Call → Outcome Said → Asked
 c gets r = record { call = c; reply = r }
 
 infix 10 _gets_
--- A morning: the book and the opening minutes that a desk is opened with, what that is told, the calls in turn, and what the desk then
+-- A morning: the book and the opening minutes that a desk is opened with, the reply to that, the calls in turn, and what the desk then
 -- holds: the rows left, its minute, and the worst lateness so far.
 pub record Morning : Type 0 where
   pub book : List ℕ
@@ -227,6 +227,76 @@ mornings =
           (starts 2 20000000 gets refused 15 0 []) ∷
           [];
       holds = (2 ∷ [], 20030000, some (pos 20030000));
+    } ∷
+    -- The same with the most opening minutes: the latest minute at which a desk stands.
+    record {
+      book = longRows;
+      opening = 30;
+      told = opened 2 10000000;
+      calls =
+          (starts 1 20000000 gets moved 20030030 (pos 20030030)) ∷
+          (lists (0 ∷ 0 ∷ []) gets plans 1 (20060060 ∷ 20060060 ∷ [])) ∷
+          (orders 1 (0 ∷ []) gets order 20060060 (pos 20060060) (2 ∷ [])) ∷
+          (starts 2 20030030 gets refused 15 0 []) ∷
+          [];
+      holds = (2 ∷ [], 20030030, some (pos 20030030));
+    } ∷
+    -- One opening minute: each start moves the desk by one minute more than the length, and the list counts it for each row left.
+    record {
+      book = twoRows 12;
+      opening = 1;
+      told = opened 2 0;
+      calls =
+          (lists (0 ∷ 0 ∷ 0 ∷ 0 ∷ []) gets plans 2 (13 ∷ 8 ∷ 14 ∷ 2 ∷ [])) ∷
+          (orders 1 (0 ∷ 0 ∷ []) gets order 13 (pos 8) (2 ∷ 1 ∷ [])) ∷
+          (orders 2 (0 ∷ 0 ∷ []) gets order 14 (pos 2) (1 ∷ 2 ∷ [])) ∷
+          (starts 1 1 gets moved 3 (negsuc 1)) ∷
+          (lists (0 ∷ 0 ∷ 7 ∷ []) gets plans 1 (14 ∷ 2 ∷ 7 ∷ [])) ∷
+          (orders 1 (0 ∷ []) gets order 14 (pos 2) (2 ∷ [])) ∷
+          (starts 2 2 gets refused 15 0 []) ∷
+          (starts 2 3 gets moved 14 (pos 2)) ∷
+          [];
+      holds = ([], 14, some (pos 2));
+    } ∷
+    -- One book without opening minutes and with thirty: another order is then the plan.
+    record {
+      book = threeRows;
+      opening = 0;
+      told = opened 3 0;
+      calls =
+          (lists (0 ∷ 0 ∷ 0 ∷ 0 ∷ 0 ∷ 0 ∷ []) gets plans 1 (25 ∷ 0 ∷ 0 ∷ 0 ∷ 0 ∷ 0 ∷ [])) ∷
+          (orders 1 (0 ∷ 0 ∷ 0 ∷ []) gets order 25 (pos 0) (1 ∷ 2 ∷ 3 ∷ [])) ∷
+          [];
+      holds = (1 ∷ 2 ∷ 3 ∷ [], 0, none);
+    } ∷
+    record {
+      book = threeRows;
+      opening = 30;
+      told = opened 3 0;
+      calls =
+          (lists (0 ∷ 0 ∷ 0 ∷ 0 ∷ 0 ∷ 0 ∷ []) gets plans 1 (106 ∷ 79 ∷ 0 ∷ 0 ∷ 0 ∷ 0 ∷ [])) ∷
+          (orders 1 (0 ∷ 0 ∷ 0 ∷ []) gets order 106 (pos 79) (2 ∷ 1 ∷ 3 ∷ [])) ∷
+          (starts 2 0 gets moved 40 (pos 28)) ∷
+          (starts 1 40 gets moved 71 (pos 66)) ∷
+          (lists (0 ∷ 0 ∷ []) gets plans 1 (106 ∷ 79 ∷ [])) ∷
+          (starts 3 71 gets moved 106 (pos 79)) ∷
+          [];
+      holds = ([], 106, some (pos 79));
+    } ∷
+    -- Opening minutes past 30 are refused whatever the book is, also words that are none: nothing is written, and the words are no desk.
+    record {
+      book = twoRows 12;
+      opening = 31;
+      told = refused 3 0 [];
+      calls = (starts 1 1 gets refused 3 0 []) ∷ [];
+      holds = ([], 0, none);
+    } ∷
+    record {
+      book = 7 ∷ [];
+      opening = 31;
+      told = refused 3 0 [];
+      calls = [];
+      holds = ([], 0, none);
     } ∷
     -- A class due: row 1 is due 75.
     record {
