@@ -22,7 +22,7 @@ use Rattle.outcomes.specs.Outcomes.{listOutcome}
 use Rattle.outcomes.specs.Planning.{gives, Planning}
 use Rattle.outcomes.proofs.OutcomeLaws.{list-narrow, list-is}
 use Rattle.calls.specs.Answers.{saidList}
-use Rattle.calls.specs.Calls.{planned}
+use Rattle.calls.specs.Planned.{planned}
 use Rattle.calls.proofs.CallLaws.{list-of}
 use Rattle.promises.specs.Vocabulary.{told, list, Takes}
 use Rattle.promises.specs.Promise.{Property1, Property2, Property3}
