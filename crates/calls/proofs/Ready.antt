@@ -85,7 +85,8 @@ module _ (terms : Terms) (book : List ℕ) (r : Given) (day : Day) (reads : read
         sym (verdict-of terms book day reads posting);
   }
 
-pub ready : (terms : Terms) (book : List ℕ) (r : Given) → Gives (terms .opening) (readBy terms book) r → r .outcome ≡ Passed → Ready terms book r
+pub ready : (terms : Terms) (book : List ℕ) (r : Given) → Gives (terms .opening) (readBy terms book) r → r .outcome ≡ Passed →
+    Ready terms book r
 ready terms book r g o =
     let d = given-passed (readBy terms book) r g o in
     ready-of terms book r (d .day) (d .contents) (d .free) (d .count) (d .columns)

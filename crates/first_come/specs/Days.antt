@@ -21,7 +21,8 @@ use Rattle.grammar.specs.Books.{bookOf as book}
 use Rattle.outcomes.specs.Planning.{gives}
 use Rattle.calls.specs.Calls.{openCalls}
 use Rattle.calls.specs.Days.{entry, reading, list, bound, plan, posting, rowWordsOf, rowPlaceOf}
-use Rattle.calls.specs.Days.{reads, lists, judges, words, finds, Worked, _gets_, plans, order, turnedDown, withMinutes, answerBy, Hold, hold}
+use Rattle.calls.specs.Days.{reads, lists, judges, words, finds, plans, order, turnedDown}
+use Rattle.calls.specs.Days.{Worked, _gets_, withMinutes, answerBy, Hold, hold}
 use Rattle.readers.specs.Reads.{firstCome}
 
 -- M1's two rows; three rows, of which the third disagrees with the first alone.

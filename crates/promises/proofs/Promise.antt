@@ -16,7 +16,6 @@ use Rattle.schedule.specs.declared.Class.the-variants.{Of}
 use Rattle.schedule.specs.Rows.{row, job, Day, jobs, rowNumbers}
 use Rattle.schedule.specs.Desk.{OrderOf, endOf, pairOf}
 use Rattle.schedule.specs.Cover.{Fits32}
-use Rattle.schedule.proofs.Orders.{perm-count}
 use Rattle.schedule.proofs.Numbers.{length-count}
 use Rattle.schedule.proofs.Signed.{leZ→, →leZ}
 use Rattle.schedule.proofs.Ranges.{in-range}
@@ -195,8 +194,7 @@ module _ (terms : Terms) where
         of-verdict = λ posting o.
             ap saidVerdict (verdict-of terms book day reads posting) ∙ verdict-front g safe posting (length (day .rows)) refl o;
         of-row = given-row;
-        sum = λ order o. opening-laws (terms .opening) (job (day .rows)) .sum (day .free) (length (day .rows)) order
-            (perm-count o .0 ∙ count);
+        opening = opening-laws (terms .opening) (job (day .rows));
         ranges = ranges (accepted-day terms book day reads);
       }
 

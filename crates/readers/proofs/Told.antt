@@ -29,8 +29,8 @@ module _ (terms : Terms) (book : List ℕ) where
   unfolding openingTests refuseIf readBy
   accepted-told day = go (ltb mostOpening (terms .opening)) refl
     where
-      go : (b : Bool) → ltb mostOpening (terms .opening) ≡ b → refusedOr (refuseIf b byRange 0) (readFor (terms .profile) book) ≡ accepted day →
-          terms .opening ≤ mostOpening
+      go : (b : Bool) → ltb mostOpening (terms .opening) ≡ b →
+          refusedOr (refuseIf b byRange 0) (readFor (terms .profile) book) ≡ accepted day → terms .opening ≤ mostOpening
       go true e f = never (cc)
       go false e f = ltb-false mostOpening (terms .opening) e
 

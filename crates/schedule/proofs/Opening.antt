@@ -1,4 +1,4 @@
--- Rows that take time to open: when they end, the rule, rank, arrival, and the sum.
+-- Rows that take time to open: when they end and how late they are, the rule, rank, arrival, and the sum.
 -- Assumes nothing.
 use Prim.Native.Nat.{ℕ, _+_, _*_, max, compare, Ordering, Ordering·lt, Ordering·eq, Ordering·gt}
 use native.Mathlib.Omega.{arith}
@@ -8,10 +8,11 @@ use mathlib.Core.Path.{_≡_, refl, ap, _∙_}
 use mathlib.Core.List.{List, [], _∷_}
 use mathlib.Core.Logic.{_↔_}
 use lib.ListN.{length}
+use lib.IntN.{subℕ}
 use Rattle.theory.specs.Jobs.{Job, finish}
 use Rattle.schedule.specs.declared.Profile.{Profile}
 use Rattle.schedule.specs.declared.Profile.the-variants.{Ordering as OrderingRule, FirstCome}
-use Rattle.schedule.specs.Desk.{endOf, idleOf, lengthsOf}
+use Rattle.schedule.specs.Desk.{lateness, lengthsOf}
 use Rattle.schedule.specs.Picks.{outranks, earliestEnd}
 use Rattle.schedule.specs.Arrival.{comesBefore, placedByArrival, byArrival}
 use Rattle.schedule.specs.Profiles.{Obeys}
@@ -35,6 +36,13 @@ compare-raised o a b = step (compare (o + a) (o + b)) (compare a b) (compared (o
     step Ordering·gt Ordering·eq p q = let z : ⊥ = omega arith in absurd z
 
 module _ (opening : ℕ) (job : ℕ → Job) where
+  ends-at : (i t : ℕ) → finish (openedJob opening job i) t ≡ max t (job i .release) + opening + job i .length
+  unfolding finish
+  ends-at i t = omega arith
+
+  lates-at : (i t : ℕ) → lateness (openedJob opening job) t i ≡ subℕ (max t (job i .release) + opening + job i .length) (job i .due)
+  lates-at i t = ap (λ (end : ℕ). subℕ end (job i .due)) (ends-at i t)
+
   raised-end : (i : ℕ) → earliestEnd (openedJob opening job i) ≡ opening + earliestEnd (job i)
   raised-end i = omega arith
 
@@ -61,13 +69,10 @@ module _ (opening : ℕ) (job : ℕ → Job) where
   openings [] = omega arith
   openings (i ∷ is) = omega (arith, openings is, suc-mul (length is) opening)
 
-  ends-at : (i t : ℕ) → finish (openedJob opening job i) t ≡ max t (job i .release) + opening + job i .length
-  unfolding finish
-  ends-at i t = omega arith
-
 pub opening-laws : OpeningHolds
 opening-laws opening job = record {
   ends = ends-at opening job;
+  lates = lates-at opening job;
   rule = rules opening job;
   rank = ranks opening job;
   arrival = arrives opening job;

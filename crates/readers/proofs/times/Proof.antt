@@ -1,7 +1,7 @@
 -- `times` meets its contract: the places 1 to i are filled.
 -- Assumes nothing.
 use borrow.Author.Needs.{needs}
-use Prim.Native.Nat.{ℕ, _+_, _-_, _≤_}
+use Prim.Native.Nat.{_+_, _-_, _≤_}
 use native.Mathlib.Omega.{arith}
 use mathlib.Core.Path.{refl}
 use Rattle.schedule.specs.Limits.{rowPlaces}
@@ -30,7 +30,9 @@ element-copy-out-taken : tie.Need-element-copy-out-taken Inv-loop μ-loop
 element-copy-out-taken c = search needs
 
 add-taken : tie.Need-add-taken Inv-loop μ-loop
-add-taken c = record { fits = omega (arith, c .before .before .before .pre .0, c .before .before .before .pre .3 (c .before .before .loop .i + 1)) }
+add-taken c =
+    let s = c .before .before .before in
+    record { fits = omega (arith, s .pre .0, s .pre .3 (c .before .before .loop .i + 1)) }
 
 mul-taken-2 : tie.Need-mul-taken-2 Inv-loop μ-loop
 mul-taken-2 c = search needs
@@ -42,7 +44,12 @@ loop-less : tie.Need-loop-less Inv-loop μ-loop
 loop-less c = search needs
 
 loop-again : tie.Need-loop-again Inv-loop μ-loop
-loop-again c = (omega arith, filled-next rowPlaces (from 1) _ (c .before .before .loop .i) (c .before .before .loop .taken) (c .before .before .loop .inv .1) _ refl (omega (arith, c .before .before .before .pre .1)) (λ m h y. omega arith))
+loop-again c =
+    let l = c .before .before .loop in (
+      omega arith,
+      filled-next rowPlaces (from 1) _ (l .i) (l .taken) (l .inv .1) _ refl (omega (arith, c .before .before .before .pre .1))
+          (λ m h y. omega arith),
+    )
 
 returns : tie.Need-returns Inv-loop μ-loop
 returns c = filled-last rowPlaces (from 1) _ _ _ _ (c .before .loop .inv .0) (c .loop-test .left) (c .before .loop .inv .1)
