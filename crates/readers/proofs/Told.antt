@@ -1,4 +1,4 @@
--- What a call is told: opening minutes between 0 and 30 leave what the book gives by the profile; others are refused.
+-- What a call is told: opening minutes past 30 are refused, whatever the book; others leave what the book gives by the profile.
 -- Assumes nothing.
 use Prim.Native.Nat.{ℕ, _≤_, _<_}
 use mathlib.Core.Bool.{Bool, true, false}
@@ -16,13 +16,13 @@ use Rattle.readers.specs.declared.Terms.{Terms}
 use Rattle.readers.specs.Reads.{openingTests, readFor, readBy}
 
 module _ (terms : Terms) (book : List ℕ) where
-  pub told-reads : terms .opening ≤ mostOpening → readBy terms book ≡ readFor (terms .profile) book
-  unfolding openingTests refuseIf readBy
-  told-reads h = rw (le-ltb mostOpening (terms .opening) h)
-
   pub untold-refused : mostOpening < terms .opening → readBy terms book ≡ refused byRange 0
   unfolding openingTests refuseIf readBy
   untold-refused h = rw (lt-ltb mostOpening (terms .opening) h)
+
+  pub told-reads : terms .opening ≤ mostOpening → readBy terms book ≡ readFor (terms .profile) book
+  unfolding openingTests refuseIf readBy
+  told-reads h = rw (le-ltb mostOpening (terms .opening) h)
 
   -- So a book is accepted by opening minutes in their range alone, and as the profile does.
   pub accepted-told : (day : Day) → readBy terms book ≡ accepted day → terms .opening ≤ mostOpening
