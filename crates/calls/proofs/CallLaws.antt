@@ -12,8 +12,8 @@ use Rattle.outcomes.specs.declared.ListAnswer.the-variants as list-answer
 use Rattle.outcomes.specs.declared.OrderAnswer.the-variants as order-answer
 use Rattle.outcomes.specs.declared.VerdictAnswer.the-variants as verdict-answer
 use Rattle.outcomes.specs.Outcomes.{listOutcome, orderOutcome, planOutcome, verdictOutcome}
-use Rattle.outcomes.specs.Planning.{gives, planningOf}
-use Rattle.calls.specs.Calls.{listCall, boundCall, planCall, verdictCall}
+use Rattle.outcomes.specs.Planning.{gives}
+use Rattle.calls.specs.Calls.{planned, listCall, boundCall, planCall, verdictCall}
 
 -- A refused book turns every call down.
 module _ (terms : Terms) (book : List ℕ) (n p : ℕ) (reads : readBy terms book ≡ refused n p) where
@@ -35,18 +35,18 @@ module _ (terms : Terms) (book : List ℕ) (n p : ℕ) (reads : readBy terms boo
 
 -- An accepted book is planned.
 module _ (terms : Terms) (book : List ℕ) (day : Day) (reads : readBy terms book ≡ accepted day) where
-  pub list-of : (b : List ℕ) → listCall terms book b ≡ listOutcome (planningOf (terms .profile) day) b
+  pub list-of : (b : List ℕ) → listCall terms book b ≡ listOutcome (planned terms day) b
   unfolding listCall
   list-of b = rw (reads, listCall)
 
-  pub bound-of : (y : ℤ) (b : List ℕ) → boundCall terms book y b ≡ orderOutcome (planningOf (terms .profile) day) y b
+  pub bound-of : (y : ℤ) (b : List ℕ) → boundCall terms book y b ≡ orderOutcome (planned terms day) y b
   unfolding boundCall
   bound-of y b = rw (reads, boundCall)
 
-  pub plan-of : (k : ℕ) (b : List ℕ) → planCall terms book k b ≡ planOutcome (planningOf (terms .profile) day) k b
+  pub plan-of : (k : ℕ) (b : List ℕ) → planCall terms book k b ≡ planOutcome (planned terms day) k b
   unfolding planCall
   plan-of k b = rw (reads, planCall)
 
-  pub verdict-of : (posting : List ℕ) → verdictCall terms book posting ≡ verdictOutcome (planningOf (terms .profile) day) posting
+  pub verdict-of : (posting : List ℕ) → verdictCall terms book posting ≡ verdictOutcome (planned terms day) posting
   unfolding verdictCall
   verdict-of posting = rw (reads, verdictCall)

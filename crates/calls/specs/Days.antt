@@ -65,15 +65,19 @@ answerTo terms (rowWordsOf b k) = words (wordsCall (terms .profile) b k)
 answerTo terms (rowPlaceOf b k) = finds (placeCall (terms .profile) b k)
 answerTo terms (lengthOf pages pace) = takes (lengthFor pages pace)
 
--- A question of the table with its answer.
+-- A question of the table with its answer: with no opening, or with so many opening minutes.
 pub record Worked : Type 0 where
+  pub opening : ℕ
   pub asked : Asked
   pub told : Reply
 
 abbrev pub _gets_ : Asked → Reply → Worked
-a gets b = record { asked = a; told = b }
+a gets b = record { opening = 0; asked = a; told = b }
 
 infix 10 _gets_
+abbrev pub withMinutes : (opening : ℕ) → Worked → Worked
+withMinutes opening d = record { opening = opening; asked = d .asked; told = d .told }
+
 -- How answers are written in the table: a book of one row with its length, due and class, or of length 5; plans with the buffer; an
 -- order's end and lateness with the buffer; a refusal with the buffer; a line.
 abbrev pub lasts : (minutes due class : ℕ) → Reply
@@ -99,10 +103,12 @@ agree : {A B : Type 0} (f g : A → B) {l : List A} → map f l ≡ map g l → 
 agree f g e (List·Memᴰ·head p) = ap f p ∙ head-eq-of-cons-eq e ∙ ap g (sym p)
 agree f g e (List·Memᴰ·tail m) = agree f g (tail-eq-of-cons-eq e) m
 
--- A table of days holds of a terms: each is answered as the table says.
-abbrev pub Hold : Terms → List Worked → Type 0
-Hold terms table = (d : Worked) → List·Memᴰ d table → answerTo terms (d .asked) ≡ d .told
+-- A table of days holds by a rule: each is answered, with its opening, as the table says.
+abbrev pub answerBy : (rule : ℕ → Terms) → Worked → Reply
+answerBy rule d = answerTo (rule (d .opening)) (d .asked)
 
-pub hold : (terms : Terms) (table : List Worked) →
-    map (λ (d : Worked). answerTo terms (d .asked)) table ≡ map (λ (d : Worked). d .told) table → Hold terms table
-hold terms table e d = agree (λ (d : Worked). answerTo terms (d .asked)) (λ (d : Worked). d .told) e
+abbrev pub Hold : (rule : ℕ → Terms) → List Worked → Type 0
+Hold rule table = (d : Worked) → List·Memᴰ d table → answerBy rule d ≡ d .told
+
+pub hold : (rule : ℕ → Terms) (table : List Worked) → map (answerBy rule) table ≡ map (λ (d : Worked). d .told) table → Hold rule table
+hold rule table e d = agree (answerBy rule) (λ (d : Worked). d .told) e

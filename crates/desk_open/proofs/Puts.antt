@@ -6,9 +6,9 @@ use native.Mathlib.Nat.{not-suc-le-zero, le-of-suc-le-suc}
 use native.Mathlib.Numerals.{add-one}
 use mathlib.Core.Path.{_≡_, refl, sym, ap, _∙_}
 use mathlib.Core.List.{List, [], _∷_, _++_, append-assoc}
-use lib.ListN.{length, take, drop, set, replicate, length-append, length-drop, length-replicate, List·getD-append}
+use lib.ListN.{length, take, drop, set, replicate, length-append, length-drop, length-replicate, getD-replicate, List·getD-append}
 use lib.Seq.{paste, paste-zero, paste-suc, length-take-le, take-append-le, drop-append-le}
-use lib.Seq.{getD-append-add, getD-take, getD-drop, sets-eq}
+use lib.Seq.{getD-append-add, getD-take, getD-drop, getD-set-other, set-getD, sets-eq}
 use Rattle.schedule.specs.Columns.{at}
 use Rattle.results.specs.Results.{written}
 use Rattle.running.specs.Words.{deskWords}
@@ -89,13 +89,22 @@ zero-after (suc k) (w ∷ ws) h = ap (λ (r : List ℕ). 0 ∷ r) (zero-after k 
 pub zeros-more : (k : ℕ) (ws : List ℕ) → k < length ws → set (written (replicate k 0) ws) k 0 ≡ written (replicate (k + 1) 0) ws
 zeros-more k ws h = zero-after k ws h ∙ ap (λ (n : ℕ). written (replicate n 0) ws) (sym (add-one k))
 
--- The count of rows and the minute, put before zeros.
-pub head-put : (count minute : ℕ) (ws cleared : List ℕ) → cleared ≡ written (replicate deskWords 0) ws →
-    set (set cleared 0 count) 1 minute ≡ written (put 0 (count ∷ minute ∷ []) (replicate deskWords 0)) ws
+-- The count of rows, the minute and the opening, put before zeros. The word between minute and opening is one of these zeros.
+pub head-put : (count minute opening : ℕ) (ws cleared : List ℕ) → cleared ≡ written (replicate deskWords 0) ws →
+    set (set (set cleared 0 count) 1 minute) 3 opening ≡
+    written (put 0 (count ∷ minute ∷ 0 ∷ opening ∷ []) (replicate deskWords 0)) ws
 unfolding put written
-head-put count minute ws cleared e =
+head-put count minute opening ws cleared e =
     let blank : List ℕ = replicate deskWords 0 in
-    let two : 0 + 2 ≤ length blank = omega (arith, length-replicate {A = ℕ} deskWords 0) in
-    let all : 0 + 2 ≤ length (written blank ws) = omega (arith, length-append blank (drop (length blank) ws)) in
-    ap (λ (d : List ℕ). set (set d 0 count) 1 minute) e ∙ sets-eq (count ∷ minute ∷ []) (written blank ws) 0 all ∙
-    put-written 0 (count ∷ minute ∷ []) blank two ws
+    let zeros : length blank ≡ deskWords = length-replicate {A = ℕ} deskWords 0 in
+    let four : 0 + 4 ≤ length blank = omega (arith, zeros) in
+    let all : 0 + 4 ≤ length (written blank ws) = omega (arith, length-append blank (drop (length blank) ws), zeros) in
+    let two : List ℕ = set (set (written blank ws) 0 count) 1 minute in
+    let third : at two 2 ≡ 0 =
+    getD-set-other (set (written blank ws) 0 count) 1 2 minute 0 (λ h. omega arith) ∙
+    getD-set-other (written blank ws) 0 2 count 0 (λ h. omega arith) ∙
+    List·getD-append blank (drop (length blank) ws) 0 2 (omega (arith, zeros)) ∙ getD-replicate {A = ℕ} deskWords 2 0 0 (omega arith) in
+    ap (λ (d : List ℕ). set (set (set d 0 count) 1 minute) 3 opening) e ∙
+    ap (λ (d : List ℕ). set d 3 opening) (sym (set-getD two 2 0) ∙ ap (set two 2) third) ∙
+    sets-eq (count ∷ minute ∷ 0 ∷ opening ∷ []) (written blank ws) 0 all ∙
+    put-written 0 (count ∷ minute ∷ 0 ∷ opening ∷ []) blank four ws

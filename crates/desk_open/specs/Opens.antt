@@ -29,8 +29,8 @@ openedWords opening day =
     (put (dues + 1) (map (λ (r : Row). r .due) (day .rows))
     (put 0 (length (day .rows) ∷ day .free ∷ 0 ∷ opening ∷ []) (replicate deskWords 0))))
 
--- The call, by the ordering rule: the refusals of the opening and the book, then a run that is too short; otherwise the count of rows and the
--- desk's minute, and the words of the desk. Words of a longer run hold what they held.
+-- The call, by the ordering rule: the refusals of the opening and the book, then a run that is too short; otherwise the count of rows and
+-- the desk's minute, and the words of the desk. Words of a longer run hold what they held.
 unfoldable pub openCall : (opening : ℕ) → (book desk : List ℕ) → Outcome OpenAnswer
 openCall opening book ws = elim (readBy (orderingRule opening) book) [
   | refused n p ↦ gives (open-answer.Refused n p) ws

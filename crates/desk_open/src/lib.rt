@@ -15,6 +15,7 @@ use readers::Terms;
 use refusals::Tested;
 use running::Layout;
 use schedule::Desk;
+use schedule::Profile;
 
 // The answer to an opening: the count of rows, and the desk's minute.
 pub enum OpenAnswer {
@@ -77,7 +78,11 @@ fn put_day<'a>(
 pub fn open(opening: u32, book: &[u32], desk: &mut [u32]) -> OpenAnswer
     ensures { λ r. ⌜ gives r (now (desk .exit)) ≡ openCall opening (now (book .entry)) (now (desk .entry)) ⌝ }
 {
-    let given = readers::read(Terms::ordering_rule(opening), book);
+    let terms = Terms {
+        profile: Profile::Ordering,
+        opening: opening,
+    };
+    let given = readers::read(terms, book);
     let outcome = given.outcome;
     if let Tested::Refused(number, place) = outcome {
         return OpenAnswer::Refused(number, place);

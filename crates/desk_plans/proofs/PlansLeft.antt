@@ -102,7 +102,7 @@ module _ (ws : List ℕ) (left : Left) (r : Ready ws left) where
         let w = columns-within ws (g .counted) (g .numbered) (r .desk) (g .released) (g .timed) (g .dated) in
         let few = few-left (r .desk) (g .counted) in
         record {
-          limits = record { releases = λ i. w i .0; lengths = λ i. omega (arith, w i .1); dues = λ i. w i .2 };
+          limits = record { releases = λ i. w i .0; lengths = λ i. w i .1; dues = λ i. w i .2 };
           low = some-row;
           few = few;
           early = omega (arith, can-plan-says (running ws) .0 (r .can) .0, g .counted);

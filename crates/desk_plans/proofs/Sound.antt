@@ -7,7 +7,7 @@ use mathlib.Core.Path.{_≡_, refl}
 use mathlib.Core.List.{List, [], _∷_, List·Memᴰ}
 use lib.ListN.{length}
 use Rattle.theory.specs.Jobs.{Job}
-use Rattle.schedule.specs.Limits.{latestMinute, longestLength, latestDue, latestDeskEnd}
+use Rattle.schedule.specs.Limits.{latestMinute, longestTime, latestDue, latestEnd}
 use Rattle.schedule.specs.Plans.{plans}
 use Rattle.schedule.proofs.Ranges.{fits-32}
 use Rattle.schedule.proofs.Cover.{promised}
@@ -26,13 +26,13 @@ plans-from job t (i ∷ is) h = refl
 abbrev pub LeftRanged : Running → Type 0
 LeftRanged d = (i : ℕ) → List·Memᴰ i (d .left) →
     (jobIn (d .rows) i .release ≤ latestMinute) × (1 ≤ jobIn (d .rows) i .length) ×
-    (jobIn (d .rows) i .length ≤ longestLength) × (jobIn (d .rows) i .due ≤ latestDue)
+    (jobIn (d .rows) i .length ≤ longestTime) × (jobIn (d .rows) i .due ≤ latestDue)
 
 pub sound-left : (d : Running) → 0 < length (d .left) → LeftRanged d → canPlan d ≡ true → Sound (planningLeft d)
 sound-left d some-row ranged can =
     let s = can-plan-says d .0 can in
     record {
-      fits = fits-32 latestDeskEnd 1 longestLength latestDue (length (d .left)) (omega (arith, s .0)) (omega arith)
+      fits = fits-32 latestEnd 1 longestTime latestDue (length (d .left)) (omega (arith, s .0)) (omega arith)
           (record {
             early = omega (arith, s .0);
             few = omega arith;

@@ -17,7 +17,7 @@ use Rattle.refusals.specs.Refusals.{byRange, byUnlisted, byDone, byEarly}
 use Rattle.refusals.specs.Tests.{refuseIf, _then_}
 use Rattle.outcomes.specs.Planning.{gives}
 use Rattle.running.specs.Running.{between, startTests, endAt, worstAt}
-use Rattle.running.specs.Words.{countIn, minuteIn, worstIn, releases, lengths, dues, marks, running, isDesk, IsDesk, movedWords, jobAt}
+use Rattle.running.specs.Words.{countIn, minuteIn, worstIn, releases, times, dues, marks, running, isDesk, IsDesk, movedWords, jobAt}
 use Rattle.running.proofs.Fits.{lies, desk-says, row-held, rows-length}
 use Rattle.running.proofs.Left.{left-stands}
 use Rattle.running.proofs.Moves.{StartFits, end-held, worst-held, worst-raised}
@@ -59,7 +59,7 @@ module _ (ws : List ℕ) (i m : ℕ) where
 
     -- The end and the worst lateness so far, from the words.
     abbrev end : ℕ
-    end = m + at ws (lengths + i)
+    end = m + at ws (times + i)
 
     abbrev worst : ℕ
     worst = max (worstIn ws) (end + 2147483648 - at ws (dues + i))

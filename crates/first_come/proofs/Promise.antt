@@ -7,73 +7,83 @@ use mathlib.Core.Path.{_≡_, sym, ap, _∙_}
 use mathlib.Core.List.{List}
 use lib.ListN.{length}
 use Rattle.schedule.specs.declared.Profile.the-variants.{Ordering, FirstCome}
-use Rattle.schedule.specs.Rows.{Day, jobs, rowNumbers}
+use Rattle.schedule.specs.Rows.{job, Day, jobs, rowNumbers}
 use Rattle.schedule.specs.Desk.{Pair}
-use Rattle.schedule.specs.Arrival.{ArrivalPromise}
 use Rattle.schedule.proofs.Arrival.{arrival-promised}
+use Rattle.schedule.proofs.Opening.{opening-laws}
 use Rattle.book.specs.Rows.{accepted}
-use Rattle.readers.specs.declared.Terms.{Terms}
-use Rattle.readers.specs.Reads.{readBy}
+use Rattle.readers.specs.Reads.{orderingRule, firstCome, readBy}
 use Rattle.readers.specs.Accepted.{AcceptedDay}
-use Rattle.readers.proofs.Accepted.{accepted-day}
-use Rattle.readers.proofs.OneDay.{one-day}
+use Rattle.readers.proofs.Contents.{same-day}
+use Rattle.readers.proofs.Accepted.{words-gave, accepted-day}
 use Rattle.results.specs.Results.{written, planWords}
 use Rattle.outcomes.specs.declared.ListAnswer.the-variants as list-answer
 use Rattle.outcomes.specs.Outcomes.{listOutcome}
-use Rattle.outcomes.specs.Planning.{gives, planningOf}
+use Rattle.outcomes.specs.Planning.{gives, Planning}
 use Rattle.outcomes.proofs.OutcomeLaws.{list-narrow, list-is}
 use Rattle.calls.specs.Answers.{saidList}
+use Rattle.calls.specs.Calls.{planned}
 use Rattle.calls.proofs.CallLaws.{list-of}
-use Rattle.promises.specs.Vocabulary.{told, list, Accepts}
+use Rattle.promises.specs.Vocabulary.{told, list, Takes}
 use Rattle.promises.specs.Promise.{Property1, Property2, Property3}
-use Rattle.promises.proofs.Accepted.{accepts}
+use Rattle.promises.proofs.Accepted.{accepts, takes}
 use Rattle.promises.proofs.Promise as of-calls
 use Rattle.promises.proofs.Promise.{some-rows, day-sound}
-use Rattle.first_come.specs.Promise.{firstCome, OnePlan, OnePlanHolds}
+use Rattle.first_come.specs.Promise.{OnePlan, OnePlanHolds}
 
-pub lent-memory : Property1 firstCome
-lent-memory = of-calls.lent-memory firstCome
+pub lent-memory : (opening : ℕ) → Property1 (firstCome opening)
+lent-memory opening = of-calls.lent-memory (firstCome opening)
 
-pub definitions-hold : Property2 firstCome
-definitions-hold = of-calls.definitions-hold firstCome
+pub definitions-hold : (opening : ℕ) → Property2 (firstCome opening)
+definitions-hold opening = of-calls.definitions-hold (firstCome opening)
 
-pub cover-holds : Property3 firstCome
-cover-holds = of-calls.cover-holds firstCome
+pub cover-holds : (opening : ℕ) → Property3 (firstCome opening)
+cover-holds opening = of-calls.cover-holds (firstCome opening)
 
--- What the ordering rule's calls are told.
-abbrev ordering : Terms
-ordering = record { profile = Ordering }
-
-one-plan : (book : List ℕ) (day : Day) → Accepts FirstCome book day → OnePlan day
-one-plan book day h =
-    let a : AcceptedDay FirstCome day = accepted-day firstCome book day (accepts firstCome book day .1 h) in
-    let p : ArrivalPromise (jobs day) (day .free) (rowNumbers day) =
-    arrival-promised (jobs day) (day .free) (rowNumbers day) (a .rule) (some-rows a) in
-    record { whole = p .whole; sorted = p .sorted; least = p .least; one-plan = p .one-plan }
+one-plan : (opening : ℕ) (book : List ℕ) (day : Day) → Takes (firstCome opening) book day → OnePlan opening day
+one-plan opening book day t =
+    let a : AcceptedDay (firstCome opening) day = accepted-day (firstCome opening) book day (takes (firstCome opening) book day .1 t) in
+    let laws = opening-laws opening (job (day .rows)) in
+    let same = laws .arrival (rowNumbers day) in
+    let own = arrival-promised (job (day .rows)) (day .free) (rowNumbers day) (laws .rule FirstCome (rowNumbers day) .0 (a .rule))
+    (some-rows a) in
+    let p = arrival-promised (jobs opening day) (day .free) (rowNumbers day) (a .rule) (some-rows a) in
+    record { whole = own .whole; sorted = own .sorted; least = rw (← same) (p .least); one-plan = rw (← same) (p .one-plan) }
 
 -- A book that both profiles accept has one list: both are the list by its definition.
-module _ (book : List ℕ) (day : Day) (e : readBy firstCome book ≡ accepted day) (f : readBy ordering book ≡ accepted day) (b : List ℕ) where
-  plans-same : planningOf FirstCome day .plans ≡ planningOf Ordering day .plans
-  plans-same = day-sound (accepted-day firstCome book day e) .front ∙ sym (day-sound (accepted-day ordering book day f) .front)
+module _ (opening : ℕ) (book : List ℕ) (day : Day) (e : readBy (firstCome opening) book ≡ accepted day)
+    (f : readBy (orderingRule opening) book ≡ accepted day) (b : List ℕ) where
+  abbrev arriving : Planning
+  arriving = planned (firstCome opening) day
 
-  outcome-same : listOutcome (planningOf FirstCome day) b ≡ listOutcome (planningOf Ordering day) b
+  abbrev ordering : Planning
+  ordering = planned (orderingRule opening) day
+
+  plans-same : arriving .plans ≡ ordering .plans
+  plans-same =
+      day-sound (accepted-day (firstCome opening) book day e) .front ∙
+      sym (day-sound (accepted-day (orderingRule opening) book day f) .front)
+
+  outcome-same : listOutcome arriving b ≡ listOutcome ordering b
   outcome-same = step (decLe (2 * length (rowNumbers day)) (length b))
     where
-      step : Dec (2 * length (rowNumbers day) ≤ length b) →
-          listOutcome (planningOf FirstCome day) b ≡ listOutcome (planningOf Ordering day) b
+      step : Dec (2 * length (rowNumbers day) ≤ length b) → listOutcome arriving b ≡ listOutcome ordering b
       step (yes h) =
-          list-is (planningOf FirstCome day) b h ∙
+          list-is arriving b h ∙
           ap (λ (ps : List Pair). gives (list-answer.Plans (length ps)) (written (planWords ps) b)) plans-same ∙
-          sym (list-is (planningOf Ordering day) b h)
-      step (no h) = list-narrow (planningOf FirstCome day) b (omega arith) ∙ sym (list-narrow (planningOf Ordering day) b (omega arith))
+          sym (list-is ordering b h)
+      step (no h) = list-narrow arriving b (omega arith) ∙ sym (list-narrow ordering b (omega arith))
 
-  same-list : list firstCome book b ≡ list ordering book b
-  same-list = ap (told saidList) (list-of firstCome book day e b ∙ outcome-same ∙ sym (list-of ordering book day f b))
+  same-list : list (firstCome opening) book b ≡ list (orderingRule opening) book b
+  same-list = ap (told saidList)
+      (list-of (firstCome opening) book day e b ∙ outcome-same ∙ sym (list-of (orderingRule opening) book day f b))
 
 pub one-plan-holds : OnePlanHolds
 one-plan-holds = record {
   one-plan = one-plan;
   same-day = λ book day other a b.
-      one-day firstCome ordering book day other (accepts firstCome book day .1 a) (accepts ordering book other .1 b);
-  same-list = λ book day a b. same-list book day (accepts firstCome book day .1 a) (accepts ordering book day .1 b);
+      same-day (sym (words-gave FirstCome book day (accepts FirstCome book day .1 a)) ∙
+      words-gave Ordering book other (accepts Ordering book other .1 b));
+  same-list = λ opening book day a b.
+      same-list opening book day (takes (firstCome opening) book day .1 a) (takes (orderingRule opening) book day .1 b);
 }

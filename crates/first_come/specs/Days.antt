@@ -21,8 +21,9 @@ use Rattle.grammar.specs.Books.{bookOf as book}
 use Rattle.outcomes.specs.Planning.{gives}
 use Rattle.calls.specs.Calls.{openCalls}
 use Rattle.calls.specs.Days.{entry, reading, list, bound, plan, posting, rowWordsOf, rowPlaceOf}
-use Rattle.calls.specs.Days.{reads, lists, judges, words, finds, Worked, _gets_, plans, order, turnedDown, answerTo, Hold, hold}
-use Rattle.first_come.specs.Promise.{firstCome}
+use Rattle.calls.specs.Days.{reads, lists, judges, words, finds, plans, order, turnedDown}
+use Rattle.calls.specs.Days.{Worked, _gets_, withMinutes, answerBy, Hold, hold}
+use Rattle.readers.specs.Reads.{firstCome}
 
 -- M1's two rows; three rows, of which the third disagrees with the first alone.
 abbrev pub twoRows : List ℕ
@@ -69,9 +70,16 @@ days =
     (plan dueTogether 1 (0 ∷ 0 ∷ []) gets order 5 (negsuc 3) (2 ∷ 1 ∷ [])) ∷
     -- Rows that disagree, and do not cross.
     (plan apartRows 1 (0 ∷ 0 ∷ 0 ∷ []) gets order 30 (pos 10) (1 ∷ 3 ∷ 2 ∷ [])) ∷
+    -- Opening minutes: each row takes so much longer, in the same order. 31 are refused before the book is looked at.
+    withMinutes 1 (list comingRows (0 ∷ 0 ∷ 7 ∷ 7 ∷ 7 ∷ 7 ∷ []) gets plans 1 (18 ∷ 3 ∷ 7 ∷ 7 ∷ 7 ∷ 7 ∷ [])) ∷
+    withMinutes 30 (plan comingRows 1 (0 ∷ 0 ∷ 0 ∷ []) gets order 105 (pos 85) (2 ∷ 3 ∷ 1 ∷ [])) ∷
+    withMinutes 30 (bound comingRows (pos 84) (4 ∷ 5 ∷ 6 ∷ []) gets turnedDown 12 0 (4 ∷ 5 ∷ 6 ∷ [])) ∷
+    withMinutes 30 (posting comingRows (1 ∷ 2 ∷ 3 ∷ []) gets judges (verdict-answer.Beaten 110 (pos 98) 1)) ∷
+    withMinutes 30 (reading twoRows gets reads (refused 13 6)) ∷
+    withMinutes 31 (list twoRows (1 ∷ []) gets lists (gives (list-answer.Refused 3 0) (1 ∷ []))) ∷
     []
 
-answered : map (λ (d : Worked). answerTo firstCome (d .asked)) days ≡ map (λ (d : Worked). d .told) days
+answered : map (answerBy firstCome) days ≡ map (λ (d : Worked). d .told) days
 unfolding openRows openDesk openPlans openArrival openProfiles openPlaces openPosting openResults openCalls
 answered = refl
 

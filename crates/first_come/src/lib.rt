@@ -17,28 +17,44 @@ use schedule::Profile;
 pub fn list(opening: u32, book: &[u32], result: &mut [u32]) -> ListAnswer
     ensures { λ r. ⌜ gives r (now (result .exit)) ≡ listCall (firstCome opening) (now (book .entry)) (now (result .entry)) ⌝ }
 {
-    calls::list(Terms::first_come(opening), book, result)
+    let terms = Terms {
+        profile: Profile::FirstCome,
+        opening: opening,
+    };
+    calls::list(terms, book, result)
 }
 
 // The order for a bound on lateness: the one plan's, if its worst lateness is at most the bound.
 pub fn order_for_bound(opening: u32, book: &[u32], bound: i32, result: &mut [u32]) -> OrderAnswer
     ensures { λ r. ⌜ gives r (now (result .exit)) ≡ boundCall (firstCome opening) (now (book .entry)) bound (now (result .entry)) ⌝ }
 {
-    calls::order_for_bound(Terms::first_come(opening), book, bound, result)
+    let terms = Terms {
+        profile: Profile::FirstCome,
+        opening: opening,
+    };
+    calls::order_for_bound(terms, book, bound, result)
 }
 
 // The order of a listed plan by its number: 1 is the one plan's.
 pub fn order_of_plan(opening: u32, book: &[u32], plan: u32, result: &mut [u32]) -> OrderAnswer
     ensures { λ r. ⌜ gives r (now (result .exit)) ≡ planCall (firstCome opening) (now (book .entry)) plan (now (result .entry)) ⌝ }
 {
-    calls::order_of_plan(Terms::first_come(opening), book, plan, result)
+    let terms = Terms {
+        profile: Profile::FirstCome,
+        opening: opening,
+    };
+    calls::order_of_plan(terms, book, plan, result)
 }
 
 // The verdict on a posted order of row numbers: its own pair, and the one plan where it beats the posting.
 pub fn verdict(opening: u32, book: &[u32], posting: &[u32]) -> VerdictAnswer
     ensures { λ r. ⌜ r ≡ verdictCall (firstCome opening) (now (book .entry)) (now (posting .entry)) ⌝ }
 {
-    calls::verdict(Terms::first_come(opening), book, posting)
+    let terms = Terms {
+        profile: Profile::FirstCome,
+        opening: opening,
+    };
+    calls::verdict(terms, book, posting)
 }
 
 // The place of a row's number word, rows counted from 1, or the refusal.

@@ -8,14 +8,14 @@ use mathlib.Core.List.{List, [], _∷_, _++_, map, append-nil, append-assoc, Lis
 use lib.Dec.{eqb}
 use lib.ListN.{length}
 use borrow.Author.Tests.{eqb-false, ne-eqb}
-use Rattle.schedule.specs.Limits.{mostRows, latestDeskEnd, longestLength}
-use Rattle.schedule.specs.declared.Profile.the-variants.{Ordering}
+use Rattle.schedule.specs.Limits.{mostRows, latestEnd, longestTime}
 use Rattle.schedule.specs.Offset.{raised}
 use Rattle.schedule.specs.Rows.{Day}
 use Rattle.schedule.proofs.Numbers.{length-count}
 use Rattle.schedule.proofs.Orders.{length-without}
 use Rattle.schedule.proofs.Stands.{stands-mem}
 use Rattle.refusals.specs.declared.Tested.the-variants as tested
+use Rattle.readers.specs.Reads.{orderingRule}
 use Rattle.readers.specs.Accepted.{AcceptedDay}
 use Rattle.running.specs.Running.{Running, opened, startTests, endAt, worstAt, moved}
 use Rattle.running.specs.Words.{running, isDesk, IsDesk, movedWords}
@@ -26,7 +26,7 @@ use Rattle.desk_start.proofs.StartLaws.{start-no, start-yes}
 use Rattle.open_desk.specs.Answers.{saidStart}
 use Rattle.open_desk.specs.History.{deskStart, Call, starts, lists, orders, afterCall, after, Start, withStart, withCall}
 use Rattle.open_desk.specs.History.{acceptedStarts, asCall, standing}
-use Rattle.open_desk.proofs.Standing.{at-first, one-more}
+use Rattle.open_desk.proofs.Standing.{OfDay, seen-length, at-first, one-more}
 use Rattle.open_desk.proofs.Memory.{start-writes}
 use Rattle.open_desk.proofs.Starts.{Found, refuses, passes, found}
 
@@ -52,28 +52,28 @@ alone ws (lists b ∷ cs) = alone ws cs
 alone ws (orders k b ∷ cs) = alone ws cs
 
 -- What holds of a desk's words after starts on a day's desk.
-pub record State (day : Day) (done : List Start) (ws : List ℕ) : Type 0 where
+pub record State (opening : ℕ) (day : Day) (done : List Start) (ws : List ℕ) : Type 0 where
   pub desk : IsDesk ws
-  pub held : running ws ≡ standing day done
-  pub few : length (standing day done .left) ≤ mostRows
-  pub room : standing day done .minute + longestLength * length (standing day done .left) ≤ latestDeskEnd
+  pub held : running ws ≡ standing opening day done
+  pub few : length (standing opening day done .left) ≤ mostRows
+  pub room : standing opening day done .minute + longestTime * length (standing opening day done .left) ≤ latestEnd
 
-module _ (day : Day) where
-  pub first : AcceptedDay Ordering day → (ws : List ℕ) → IsDesk ws → running ws ≡ opened day → State day [] ws
+module _ (opening : ℕ) (day : Day) where
+  pub first : AcceptedDay (orderingRule opening) day → (ws : List ℕ) → IsDesk ws → running ws ≡ opened opening day → State opening day [] ws
   first a ws desk held = record {
     desk = desk;
-    held = held ∙ sym (at-first day);
+    held = held ∙ sym (at-first opening day);
     few = omega (arith, count, a .few-rows);
     room = omega (arith, count, minute, a .few-rows, a .early);
   }
     where
-      count : length (standing day [] .left) ≡ length (day .rows)
-      count = ap (λ (d : Running). length (d .left)) (at-first day) ∙ length-count 1 (length (day .rows))
+      count : length (standing opening day [] .left) ≡ length (day .rows)
+      count = ap (λ (d : Running). length (d .left)) (at-first opening day) ∙ length-count 1 (length (day .rows))
 
-      minute : standing day [] .minute ≡ day .free
-      minute = ap (λ (d : Running). d .minute) (at-first day)
+      minute : standing opening day [] .minute ≡ day .free
+      minute = ap (λ (d : Running). d .minute) (at-first opening day)
 
-  module _ (done : List Start) (ws : List ℕ) (s : State day done ws) where
+  module _ (done : List Start) (ws : List ℕ) (s : State opening day done ws) where
     -- One start more.
     module _ (i m : ℕ) where
       abbrev next : Start
@@ -83,19 +83,25 @@ module _ (day : Day) where
         abbrev new : List ℕ
         new = movedWords ws i (endAt (running ws) i m) (raised (worstAt (running ws) i m))
 
-        held : running new ≡ standing day (done ++ (next ∷ []))
+        pub of-day : OfDay day i
+        of-day =
+            let may = may-start (running ws) i m passed in
+            omega (arith, may .listed, ap (λ (d : Running). length (d .rows)) (s .held), seen-length opening day)
+
+        held : running new ≡ standing opening day (done ++ (next ∷ []))
         held =
             moved-held ws (s .desk) i m passed .1 ∙
-            (ap (λ (d : Running). moved d i m) (s .held) ∙ sym (one-more day done i m))
+            (ap (λ (d : Running). moved d i m) (s .held) ∙ sym (one-more opening day done i m of-day))
 
-        -- One row fewer is left, and the desk stands at 20,030,000 at the latest.
-        fewer : suc (length (standing day (done ++ (next ∷ [])) .left)) ≡ length (standing day done .left)
+        -- One row fewer is left, and the desk stands at 20,030,030 at the latest.
+        fewer : suc (length (standing opening day (done ++ (next ∷ [])) .left)) ≡ length (standing opening day done .left)
         fewer =
             let may = may-start (running ws) i m passed in
             let there = subst (λ (d : Running). List·Memᴰ i (d .left)) (s .held) (stands-mem i (running ws .left) (may .left)) in
-            ap (λ (d : Running). suc (length (d .left))) (one-more day done i m) ∙ sym (length-without i (standing day done .left) there)
+            ap (λ (d : Running). suc (length (d .left))) (one-more opening day done i m of-day) ∙
+            sym (length-without i (standing opening day done .left) there)
 
-        pub moves : State day (done ++ (next ∷ [])) new
+        pub moves : State opening day (done ++ (next ∷ [])) new
         moves =
             let new-desk = moved-held ws (s .desk) i m passed .0 in
             let minute = ap (λ (d : Running). d .minute) held in
@@ -109,13 +115,13 @@ module _ (day : Day) where
     -- A call leaves the desk as it is, or is an accepted start. `more` is the start, or none.
     record Taken (c : Call) : Type 0 where
       more : List Start
-      state : State day (done ++ more) (afterCall ws c)
+      state : State opening day (done ++ more) (afterCall ws c)
       counted : (rest : List Start) → withCall ws c rest ≡ more ++ rest
 
     untouched : (c : Call) → afterCall ws c ≡ ws → ((rest : List Start) → withCall ws c rest ≡ rest) → Taken c
     untouched c e f = record {
       more = [];
-      state = subst (State day (done ++ [])) (sym e) (subst (λ ds. State day ds ws) (sym (append-nil done)) s);
+      state = subst (State opening day (done ++ [])) (sym e) (subst (λ ds. State opening day ds ws) (sym (append-nil done)) s);
       counted = f;
     }
 
@@ -137,18 +143,18 @@ module _ (day : Day) where
             let e = start-yes ws i m desk t in
             record {
               more = next i m ∷ [];
-              state = subst (State day (done ++ (next i m ∷ []))) (sym (ap (λ o. o .buffer) e)) (moves i m t);
+              state = subst (State opening day (done ++ (next i m ∷ []))) (sym (ap (λ o. o .buffer) e)) (moves i m t);
               counted = λ rest. ap (λ o. withStart (saidStart (o .answer) .number) (next i m) rest) e;
             }
 
   -- After any calls the desk stands as the accepted ones among their starts have moved it.
-  pub leaves : (done : List Start) (ws : List ℕ) → State day done ws → (calls : List Call) →
-      State day (done ++ acceptedStarts ws calls) (after ws calls)
+  pub leaves : (done : List Start) (ws : List ℕ) → State opening day done ws → (calls : List Call) →
+      State opening day (done ++ acceptedStarts ws calls) (after ws calls)
   unfolding after acceptedStarts
-  leaves done ws s [] = subst (λ ds. State day ds ws) (sym (append-nil done)) s
+  leaves done ws s [] = subst (λ ds. State opening day ds ws) (sym (append-nil done)) s
   leaves done ws s (c ∷ cs) =
       let t = taken done ws s c in
       let rest = acceptedStarts (afterCall ws c) cs in
-      subst (λ ds. State day ds (after (afterCall ws c) cs))
+      subst (λ ds. State opening day ds (after (afterCall ws c) cs))
       (append-assoc done (t .more) rest ∙ ap (λ ds. done ++ ds) (sym (t .counted rest)))
       (leaves (done ++ t .more) (afterCall ws c) (t .state) cs)

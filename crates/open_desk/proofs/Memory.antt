@@ -9,6 +9,7 @@ use mathlib.Core.List.{List, _++_}
 use mathlib.Core.Logic.{_⊎_, inl, inr}
 use lib.ListN.{length, drop, getD}
 use lib.Seq.{drop-append-seam}
+use Rattle.schedule.specs.Limits.{mostOpening}
 use Rattle.schedule.specs.declared.Profile.{Profile}
 use Rattle.schedule.specs.declared.Profile.the-variants.{Ordering, FirstCome}
 use Rattle.schedule.specs.Offset.{raised}
@@ -17,13 +18,14 @@ use Rattle.refusals.specs.Refusals.{byNarrow, byRange}
 use Rattle.book.specs.Rows.{Contents, refused, accepted}
 use Rattle.readers.specs.Reads.{orderingRule, readBy}
 use Rattle.readers.proofs.Accepted.{accepted-day}
+use Rattle.readers.proofs.Told.{told-reads, untold-refused}
 use Rattle.results.specs.Results.{written}
 use Rattle.outcomes.specs.Planning.{Outcome, gives}
 use Rattle.calls.specs.Answers.{Said, saidNo}
 use Rattle.promises.specs.Vocabulary.{told}
 use Rattle.promises.specs.Promise.{Lent}
 use Rattle.promises.specs.Table.{BookRefused, by-word, disorder, crossed}
-use Rattle.promises.proofs.Accepted.{book-refused}
+use Rattle.promises.proofs.Accepted.{refusal-is, book-refused}
 use Rattle.promises.proofs.Numbers.{wrong-numbered}
 use Rattle.running.specs.Running.{Running, endAt, worstAt}
 use Rattle.running.specs.Words.{deskWords, running, marks, isDesk, movedWords}
@@ -63,35 +65,49 @@ book-numbers (by-word n p f) = let h = wrong-numbered (f .wrong) in (h .0, omega
 book-numbers (disorder e day t k c) = (omega arith, omega arith)
 book-numbers (crossed e day t k c) = absurd (not-first-come e)
 
-module _ (book ws : List ℕ) where
+-- Before the words are looked at an opening is refused by its minutes, which tells 3, or by the book.
+read-numbers : (opening : ℕ) (book : List ℕ) (n p : ℕ) → readBy (orderingRule opening) book ≡ refused n p → (1 ≤ n) × (n ≤ 9)
+read-numbers opening book n p e = step (decLe opening mostOpening)
+  where
+    step : Dec (opening ≤ mostOpening) → (1 ≤ n) × (n ≤ 9)
+    step (yes h) = book-numbers (book-refused Ordering book n p .0 (sym (told-reads (orderingRule opening) book h) ∙ e))
+    step (no h) =
+        let three = refusal-is (sym (untold-refused (orderingRule opening) book (omega arith)) ∙ e) .0 in
+        (omega (arith, three), omega (arith, three))
+
+module _ (opening : ℕ) (book ws : List ℕ) where
+  abbrev Reads : Contents → Type 0
+  Reads x = readBy (orderingRule opening) book ≡ x
+
   -- A refused opening leaves the words; another writes those of a desk, and leaves the words after them.
   abbrev OpenWrites : Outcome Said → Type 0
   OpenWrites o = Lent (λ n. (1 ≤ n) × (n ≤ 9)) ws o × (drop deskWords (o .buffer) ≡ drop deskWords ws)
 
-  written-past : (day : Day) → readBy orderingRule book ≡ accepted day → drop deskWords (written (openedWords day) ws) ≡ drop deskWords ws
+  written-past : (day : Day) → Reads (accepted day) → drop deskWords (written (openedWords opening day) ws) ≡ drop deskWords ws
   unfolding written
   written-past day e =
-      let long = opened-long day (accepted-day orderingRule book day e .few-rows) in
-      ap (λ (n : ℕ). drop n (openedWords day ++ drop (length (openedWords day)) ws)) (sym long) ∙
-      (drop-append-seam (openedWords day) (drop (length (openedWords day)) ws) ∙ ap (λ (n : ℕ). drop n ws) long)
+      let long = opened-long opening day (accepted-day (orderingRule opening) book day e .few-rows) in
+      ap (λ (n : ℕ). drop n (openedWords opening day ++ drop (length (openedWords opening day)) ws)) (sym long) ∙
+      (drop-append-seam (openedWords opening day) (drop (length (openedWords opening day)) ws) ∙ ap (λ (n : ℕ). drop n ws) long)
 
-  pub open-writes : OpenWrites (deskOpen book ws)
-  open-writes = step (readBy orderingRule book) refl
+  pub open-writes : OpenWrites (deskOpen opening book ws)
+  open-writes = step (readBy (orderingRule opening) book) refl
     where
-      room : (day : Day) → readBy orderingRule book ≡ accepted day → Dec (deskWords ≤ length ws) → OpenWrites (deskOpen book ws)
+      room : (day : Day) → Reads (accepted day) → Dec (deskWords ≤ length ws) → OpenWrites (deskOpen opening book ws)
       room day e (yes h) =
-          subst OpenWrites (sym (ap (told saidOpen) (open-yes book ws day e h))) (
-            lent-yes _ ws (written (openedWords day) ws) refl (opened-held day ws (accepted-day orderingRule book day e) h .2),
+          subst OpenWrites (sym (ap (told saidOpen) (open-yes opening book ws day e h))) (
+            lent-yes _ ws (written (openedWords opening day) ws) refl
+                (opened-held opening day ws (accepted-day (orderingRule opening) book day e) h .2),
             written-past day e,
           )
       room day e (no h) =
-          subst OpenWrites (sym (ap (told saidOpen) (open-short book ws day e (omega arith))))
+          subst OpenWrites (sym (ap (told saidOpen) (open-short opening book ws day e (omega arith))))
           (lent-no byNarrow 0 ws (omega arith, omega arith), refl)
 
-      step : (x : Contents) → readBy orderingRule book ≡ x → OpenWrites (deskOpen book ws)
+      step : (x : Contents) → Reads x → OpenWrites (deskOpen opening book ws)
       step (refused n p) e =
-          subst OpenWrites (sym (ap (told saidOpen) (open-no book ws n p e)))
-          (lent-no n p ws (book-numbers (book-refused orderingRule book n p .0 e)), refl)
+          subst OpenWrites (sym (ap (told saidOpen) (open-no opening book ws n p e)))
+          (lent-no n p ws (read-numbers opening book n p e), refl)
       step (accepted day) e = room day e (decLe deskWords (length ws))
 
 -- # A start

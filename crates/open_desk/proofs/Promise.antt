@@ -9,15 +9,14 @@ use mathlib.Core.Logic.{_↔_, _⊎_, inl, inr}
 use lib.ListN.{length}
 use lib.IntN.{pos}
 use lib.Signed.{_≤ℤ_}
-use Rattle.schedule.specs.Limits.{mostRows, longestLength, latestDue, latestStart, latestDeskEnd, leastLateness}
-use Rattle.schedule.specs.declared.Profile.the-variants.{Ordering}
+use Rattle.schedule.specs.Limits.{mostRows, longestTime, latestDue, latestStart, latestEnd, leastLateness}
 use Rattle.schedule.specs.Cover.{Agreeing}
 use Rattle.schedule.specs.Desk.{Pair, worstOf}
 use Rattle.schedule.specs.Plans.{plans}
-use Rattle.schedule.specs.Rows.{Day, rowNumbers, stands}
+use Rattle.schedule.specs.Rows.{Day, jobs, rowNumbers, stands}
+use Rattle.schedule.proofs.Numbers.{count-range}
 use Rattle.schedule.proofs.Ranges.{in-range}
 use Rattle.refusals.specs.declared.Tested.the-variants.{Passed}
-use Rattle.book.specs.Rows.{accepted}
 use Rattle.readers.specs.Accepted.{AcceptedDay}
 use Rattle.readers.specs.Reads.{orderingRule}
 use Rattle.readers.proofs.Accepted.{accepted-day}
@@ -31,7 +30,7 @@ use Rattle.promises.specs.Vocabulary.{told, saidCount, Refuses, listed, ReaderO
 use Rattle.promises.specs.Table.{ListTurned, PlanTurned}
 use Rattle.promises.specs.Table as table
 use Rattle.promises.specs.Promise.{Covered, PlanOrders}
-use Rattle.promises.proofs.Accepted.{accepts}
+use Rattle.promises.proofs.Accepted.{takes}
 use Rattle.promises.proofs.Kept.{list-front, covered, plan-orders}
 use Rattle.promises.proofs.Memory as memory
 use Rattle.running.specs.Running.{Running, jobIn, startTests, endAt, worstAt}
@@ -52,7 +51,7 @@ use Rattle.open_desk.specs.Table.{StartTurned, CanPlan, DeskTurned, no-d
 use Rattle.open_desk.specs.Promise.{DeskProperty1, DeskProperty2, AfterCalls, OpenDesk}
 use Rattle.open_desk.proofs.Standing.{job-held, worst-told, end-told}
 use Rattle.open_desk.proofs.Starts.{Found, refuses, passes, found}
-use Rattle.open_desk.proofs.Histories.{alone, State, first, leaves}
+use Rattle.open_desk.proofs.Histories.{alone, State, first, of-day, leaves}
 use Rattle.open_desk.proofs.Refused as refused
 use Rattle.open_desk.proofs.Memory.{open-writes, start-writes}
 
@@ -72,30 +71,36 @@ left-row done (j ∷ js) i m = step (stands j (map (λ (s : Start). s .row) done
     step false m later = keep m later
 
 -- A desk that stands as starts on an accepted day have moved it.
-module _ (day : Day) (a : AcceptedDay Ordering day) (done : List Start) where
+module _ (opening : ℕ) (day : Day) (a : AcceptedDay (orderingRule opening) day) (done : List Start) where
   abbrev d : Running
-  d = standing day done
+  d = standing opening day done
+
+  -- A row left is one of the day's, and planning sees the same of it on the desk as of the day.
+  seen : (i : ℕ) → List·Memᴰ i (d .left) → List·Memᴰ i (rowNumbers day) × (jobIn (d .rows) i ≡ jobs opening day i)
+  seen i m =
+      let n = left-row done (rowNumbers day) i m in
+      (n, job-held opening day i (omega (arith, count-range 1 (length (day .rows)) n)))
 
   agree : Agreeing (jobIn (d .rows)) (d .left)
-  agree i j m n = rw (job-held day i, job-held day j)
-      (a .rule i j (left-row done (rowNumbers day) i m) (left-row done (rowNumbers day) j n))
+  agree i j m n = let s = seen i m in let t = seen j n in rw (s .1, t .1) (a .rule i j (s .0) (t .0))
 
   -- Ends and latenesses: the minute leaves room for the rows left.
-  in-time : length (d .left) ≤ mostRows → d .minute + longestLength * length (d .left) ≤ latestDeskEnd → 0 < length (d .left) →
+  in-time : length (d .left) ≤ mostRows → d .minute + longestTime * length (d .left) ≤ latestEnd → 0 < length (d .left) →
       (order : List ℕ) → ReaderOrder (planningLeft d) order →
-      (endBy (planningLeft d) order ≤ latestDeskEnd) × (lateBy (planningLeft d) order ≤ℤ pos latestDeskEnd) ×
+      (endBy (planningLeft d) order ≤ latestEnd) × (lateBy (planningLeft d) order ≤ℤ pos latestEnd) ×
       (leastLateness ≤ℤ lateBy (planningLeft d) order)
   in-time few room some order o =
       let n = length (d .left) in
-      let top = latestDeskEnd - longestLength * n in
-      let all : top + longestLength * n ≡ latestDeskEnd = omega arith in
-      let r = in-range top 1 longestLength latestDue n (jobIn (d .rows)) (d .minute) (d .left)
+      let top = latestEnd - longestTime * n in
+      let all : top + longestTime * n ≡ latestEnd = omega arith in
+      let r = in-range top 1 longestTime latestDue n (jobIn (d .rows)) (d .minute) (d .left)
       (record {
         early = omega arith;
         few = omega arith;
         ranges = λ i m.
-            let u = a .ranged i (left-row done (rowNumbers day) i m) in
-            rw (job-held day i) (omega (arith, u .0), u .1, u .2, u .3);
+            let s = seen i m in
+            let u = a .ranged i (s .0) in
+            rw (s .1) (omega (arith, u .0), omega (arith, u .1), omega (arith, u .2, a .opening), u .3);
       }) some order o in
       (omega (arith, r .0, all), subst (λ (e : ℕ). lateBy (planningLeft d) order ≤ℤ pos e) all (r .1), r .2)
 
@@ -141,7 +146,7 @@ module _ (ws : List ℕ) where
 
 pub desk-memory : DeskProperty1
 desk-memory = record {
-  of-open = λ book ws. open-writes book ws .0;
+  of-open = λ opening book ws. open-writes opening book ws .0;
   of-start = λ ws i m. start-writes ws i m .0;
   of-list = λ ws b. let k = list-buffer ws b in record {
     number = λ h. list-numbers ws b _ _ (refused.list-refused ws b _ _ .0 (h, refl, refl));
@@ -153,7 +158,7 @@ desk-memory = record {
     buffer = u .refused;
     same-length = u .same-length;
   };
-  open-writes = λ book ws. open-writes book ws .1;
+  open-writes = λ opening book ws. open-writes opening book ws .1;
   start-writes = λ ws i m. start-writes ws i m .1;
 }
 
@@ -167,8 +172,8 @@ desk-definitions = record {
 }
 
 -- # 3. The open desk: of words that hold the desk as starts on an accepted day have moved it
-module _ (day : Day) (a : AcceptedDay Ordering day) (first-words : List ℕ) (calls : List Call)
-    (s : State day (acceptedStarts first-words calls) (after first-words calls)) where
+module _ (opening : ℕ) (day : Day) (a : AcceptedDay (orderingRule opening) day) (first-words : List ℕ) (calls : List Call)
+    (s : State opening day (acceptedStarts first-words calls) (after first-words calls)) where
   abbrev done : List Start
   done = acceptedStarts first-words calls
 
@@ -176,13 +181,13 @@ module _ (day : Day) (a : AcceptedDay Ordering day) (first-words : List ℕ) (ca
   words = after first-words calls
 
   abbrev now-held : Running
-  now-held = standing day done
+  now-held = standing opening day done
 
   can : CanPlan words
   can = record {
     desk = s .desk;
-    room = subst (λ (d : Running). d .minute + longestLength * length (d .left) ≤ latestDeskEnd) (sym (s .held)) (s .room);
-    agree = subst (λ (d : Running). Agreeing (jobIn (d .rows)) (d .left)) (sym (s .held)) (agree day a done);
+    room = subst (λ (d : Running). d .minute + longestTime * length (d .left) ≤ latestEnd) (sym (s .held)) (s .room);
+    agree = subst (λ (d : Running). Agreeing (jobIn (d .rows)) (d .left)) (sym (s .held)) (agree opening day a done);
   }
 
   desk : isDesk words ≡ true
@@ -205,11 +210,13 @@ module _ (day : Day) (a : AcceptedDay Ordering day) (first-words : List ℕ) (ca
 
   start-moves : (i m : ℕ) → deskStart words i m .answer .number ≡ 0 →
       let s : Start = record { row = i; minute = m } in
-      deskStart words i m .answer ≡ saidMoved (endOfStart day s) (worstOf (map (latenessOfStart day) (done ++ (s ∷ []))))
+      deskStart words i m .answer ≡ saidMoved (endOfStart opening day s) (worstOf (map (latenessOfStart opening day) (done ++ (s ∷ []))))
   start-moves i m accepted-it =
-      ap (λ o. saidStart (o .answer)) (start-yes words i m desk (has-passed i m accepted-it)) ∙
+      let passed = has-passed i m accepted-it in
+      let row = of-day opening day done words s i m passed in
+      ap (λ o. saidStart (o .answer)) (start-yes words i m desk passed) ∙
       (ap (λ (d : Running). saidMoved (endAt d i m) (worstAt d i m)) (s .held) ∙
-      (λ x. saidMoved (end-told day done i m x) (worst-told day done i m x)))
+      (λ x. saidMoved (end-told opening day done i m row x) (worst-told opening day done i m row x)))
 
   none-past : latestStart < now-held .minute → (i m : ℕ) → ¬ (deskStart words i m .answer .number ≡ 0)
   none-past late i m accepted-it =
@@ -243,7 +250,7 @@ module _ (day : Day) (a : AcceptedDay Ordering day) (first-words : List ℕ) (ca
       list-is g b (omega (arith, ap (λ (js : List ℕ). length js) e))) ∙
       ap (λ (ps : List Pair). saidCount (length ps)) (no-plans (running words) e)
 
-  after-calls : AfterCalls day first-words calls
+  after-calls : AfterCalls opening day first-words calls
   after-calls = record {
     word-for-word = sym (alone first-words calls);
     holds = s .held;
@@ -266,16 +273,19 @@ module _ (day : Day) (a : AcceptedDay Ordering day) (first-words : List ℕ) (ca
         PlanOrders (planningLeft d) (listed (deskList words b)) (deskPlan words)) list-covers;
     none-left = held (λ d. d .left ≡ [] → (b : List ℕ) → deskList words b .answer ≡ saidCount 0) none-left;
     room = s .room;
-    ranges = in-time day a done (s .few) (s .room);
+    ranges = in-time opening day a done (s .few) (s .room);
   }
 
 pub open-desk : OpenDesk
-open-desk book ws day accepts-it wide =
-    let reads = accepts orderingRule book day .1 accepts-it in
-    let a = accepted-day orderingRule book day reads in
-    let opens = open-yes book ws day reads wide in
-    let h = opened-held day ws a wide in
-    let begun = subst (State day []) (sym (ap (λ o. o .buffer) opens)) (first day a (written (openedWords day) ws) (h .0) (h .1)) in (
+open-desk opening book ws day taken wide =
+    let terms = orderingRule opening in
+    let reads = takes terms book day .1 taken in
+    let a = accepted-day terms book day reads in
+    let opens = open-yes opening book ws day reads wide in
+    let h = opened-held opening day ws a wide in
+    let begun = subst (State opening day []) (sym (ap (λ o. o .buffer) opens))
+    (first opening day a (written (openedWords opening day) ws) (h .0) (h .1)) in
+    let words = deskOpen opening book ws .buffer in (
       ap (λ o. saidOpen (o .answer)) opens,
-      λ calls. after-calls day a (deskOpen book ws .buffer) calls (leaves day [] (deskOpen book ws .buffer) begun calls),
+      λ calls. after-calls opening day a words calls (leaves opening day [] words begun calls),
     )

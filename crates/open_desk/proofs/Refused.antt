@@ -8,12 +8,11 @@ use mathlib.Core.Path.{_≡_, refl, sym, ap, _∙_}
 use mathlib.Core.List.{List, [], _∷_}
 use mathlib.Core.Logic.{_↔_}
 use lib.ListN.{length}
-use Rattle.schedule.specs.declared.Profile.the-variants.{Ordering}
 use Rattle.schedule.specs.Desk.{Pair}
 use Rattle.schedule.specs.Rows.{Day}
 use Rattle.schedule.proofs.Tests.{false-is-true}
 use Rattle.refusals.specs.Refusals.{byRange, byNarrow, byUnlisted}
-use Rattle.book.specs.Rows.{refused, accepted}
+use Rattle.book.specs.Rows.{accepted}
 use Rattle.readers.specs.Reads.{orderingRule, readBy}
 use Rattle.outcomes.specs.Planning.{Planning}
 use Rattle.outcomes.specs.Outcomes.{planOutcome}
@@ -40,9 +39,9 @@ use Rattle.open_desk.proofs.Starts.{Found, refuses, passes, found}
 use Rattle.desk_start.proofs.StartLaws.{start-none, start-no, start-yes}
 
 -- # Opening
-module _ (book ws : List ℕ) where
-  module _ (day : Day) (e : readBy orderingRule book ≡ accepted day) where
-    open-own : (n p : ℕ) → Refuses (deskOpen book ws .answer) n p ↔ OpenTurned ws n p
+module _ (opening : ℕ) (book ws : List ℕ) where
+  module _ (day : Day) (e : readBy (orderingRule opening) book ≡ accepted day) where
+    open-own : (n p : ℕ) → Refuses (deskOpen opening book ws .answer) n p ↔ OpenTurned ws n p
     open-own = step (decLe deskWords (length ws))
       where
         only : (n p : ℕ) → OpenTurned ws n p → (byNarrow ≡ n) × (0 ≡ p)
@@ -51,19 +50,20 @@ module _ (book ws : List ℕ) where
         wide : deskWords ≤ length ws → (n p : ℕ) → ¬ OpenTurned ws n p
         wide h _ _ (narrow l) = omega arith
 
-        step : Dec (deskWords ≤ length ws) → (n p : ℕ) → Refuses (deskOpen book ws .answer) n p ↔ OpenTurned ws n p
+        step : Dec (deskWords ≤ length ws) → (n p : ℕ) → Refuses (deskOpen opening book ws .answer) n p ↔ OpenTurned ws n p
         step (yes h) =
-            says-yes (deskOpen book ws .answer) (OpenTurned ws)
-            (ap (λ o. saidOpen (o .answer) .number) (open-yes book ws day e h)) (wide h)
+            says-yes (deskOpen opening book ws .answer) (OpenTurned ws)
+            (ap (λ o. saidOpen (o .answer) .number) (open-yes opening book ws day e h)) (wide h)
         step (no h) =
             let short : length ws < deskWords = omega arith in
-            says-no (deskOpen book ws .answer) (OpenTurned ws) byNarrow 0 (omega arith)
-            (ap (λ o. saidOpen (o .answer)) (open-short book ws day e short))
+            says-no (deskOpen opening book ws .answer) (OpenTurned ws) byNarrow 0 (omega arith)
+            (ap (λ o. saidOpen (o .answer)) (open-short opening book ws day e short))
             (narrow short) only
 
-  pub open-turned : (n p : ℕ) → Refuses (deskOpen book ws .answer) n p ↔ Turned Ordering book (λ day. OpenTurned ws) n p
-  open-turned = turned orderingRule book (λ day. OpenTurned ws) (deskOpen book ws .answer)
-      (λ n p e. ap (λ o. saidOpen (o .answer)) (open-no book ws n p e)) open-own
+  pub open-turned : (n p : ℕ) → Refuses (deskOpen opening book ws .answer) n p ↔
+      Turned (orderingRule opening) book (λ day. OpenTurned ws) n p
+  open-turned = turned (orderingRule opening) book (λ day. OpenTurned ws) (deskOpen opening book ws .answer)
+      (λ n p e. ap (λ o. saidOpen (o .answer)) (open-no opening book ws n p e)) open-own
 
 -- # Calls on lent words: these are no desk that the call can work on, or they are, and the call is refused by a condition of its own.
 module _ (said : Said) (Here : Type 0) (Own : (n p : ℕ) → Type 0) where

@@ -1,28 +1,35 @@
 -- What starts come to: with none, and with one more after the others.
 -- Assumes nothing.
-use Prim.Native.Nat.{ℕ, zero, suc, _+_, _<_}
+use Prim.Native.Nat.{ℕ, zero, suc, _+_, _≤_, _<_}
 use native.Mathlib.Omega.{arith}
 use mathlib.Core.Bool.{Bool, true, false, _||_, or-false}
 use mathlib.Core.Path.{_≡_, refl, sym, ap, _∙_}
 use mathlib.Core.List.{List, [], _∷_, _++_, map, map-append}
 use mathlib.Core.Option.{Option, some, Option·some-injective}
 use lib.Dec.{eqb}
-use lib.ListN.{length, List·getD-map}
+use lib.ListN.{length, length-map}
 use lib.IntN.{ℤ}
 use lib.Signed.{leZ}
 use borrow.Author.Tests.{eqb-true, eqb-false, eq-eqb, ne-eqb}
-use Rattle.schedule.specs.Rows.{noRow, jobOf, Day, jobs, countFrom, rowNumbers, stands, without}
+use Rattle.schedule.specs.Rows.{Day, jobs, countFrom, rowNumbers, stands, without}
 use Rattle.schedule.specs.Desk.{maxZ, worstOf}
 use Rattle.schedule.proofs.Tests.{false-is-true, true-is, is-true, true-is, is-false}
 use Rattle.schedule.proofs.Signed.{leZ-trans, leZ-total}
 use Rattle.schedule.proofs.Stands.{stands-behind}
-use Rattle.running.specs.Running.{opened, jobIn, worse, endAt, worstAt, moved}
+use Rattle.running.specs.Running.{rowsSeen, opened, noJob, jobIn, worse, endAt, worstAt, moved}
+use Rattle.desk_open.proofs.Opened.{mapped-at}
 use Rattle.open_desk.specs.History.{Start, endOfStart, latenessOfStart, minuteAfter, notTaken, worstSoFar, standing}
 
--- What planning sees of a row is the same on the desk as of the day.
-pub job-held : (day : Day) (i : ℕ) → jobIn (map jobOf (day .rows)) i ≡ jobs day i
-job-held day zero = refl
-job-held day (suc i) = List·getD-map jobOf (day .rows) i noRow
+-- Row i is one of the day's. What planning sees of it is the same on the desk as of the day.
+abbrev pub OfDay : Day → ℕ → Type 0
+OfDay day i = (1 ≤ i) × (i ≤ length (day .rows))
+
+pub job-held : (opening : ℕ) (day : Day) (i : ℕ) → OfDay day i → jobIn (rowsSeen opening day) i ≡ jobs opening day i
+job-held opening day zero h = let z : ⊥ = omega arith in absurd z
+job-held opening day (suc i) h = mapped-at _ (day .rows) i noJob (omega arith)
+
+pub seen-length : (opening : ℕ) (day : Day) → length (rowsSeen opening day) ≡ length (day .rows)
+seen-length opening day = length-map (day .rows) _
 
 -- Nobody took a row yet.
 none-taken : (is : List ℕ) → notTaken [] is ≡ is
@@ -30,9 +37,9 @@ unfolding notTaken stands
 none-taken [] = refl
 none-taken (i ∷ is) = ap (λ (js : List ℕ). i ∷ js) (none-taken is)
 
-pub at-first : (day : Day) → standing day [] ≡ opened day
+pub at-first : (opening : ℕ) (day : Day) → standing opening day [] ≡ opened opening day
 unfolding minuteAfter worstSoFar
-at-first day = rw (none-taken (rowNumbers day))
+at-first opening day = rw (none-taken (rowNumbers day))
 
 -- The larger of three signed numbers, taken either way.
 max-assoc : (a b c : ℤ) → maxZ a (maxZ b c) ≡ maxZ (maxZ a b) c
@@ -88,40 +95,41 @@ left-on done s k (suc n) = step (stands k (taken done)) (eqb k (s .row)) refl re
         let other : s .row ≡ k → ⊥ = λ g. eqb-false k (s .row) f (sym g) in
         rw (taken-on k done s, e, f, ne-eqb (s .row) k other) (ap (λ (js : List ℕ). k ∷ js) later)
 
-module _ (day : Day) where
+module _ (opening : ℕ) (day : Day) where
   worst-on : (done : List Start) (s : Start) →
-      worstSoFar day (done ++ (s ∷ [])) ≡ some (worse (worstSoFar day done) (latenessOfStart day s))
+      worstSoFar opening day (done ++ (s ∷ [])) ≡ some (worse (worstSoFar opening day done) (latenessOfStart opening day s))
   unfolding worstSoFar worse worstOf
   worst-on [] s = refl
   worst-on (r ∷ rs) s =
       ap {B = Option ℤ} some
-      (ap worstOf (map-append (latenessOfStart day) (r ∷ rs) (s ∷ [])) ∙
-      worst-more (latenessOfStart day r) (map (latenessOfStart day) rs) (latenessOfStart day s))
+      (ap worstOf (map-append (latenessOfStart opening day) (r ∷ rs) (s ∷ [])) ∙
+      worst-more (latenessOfStart opening day r) (map (latenessOfStart opening day) rs) (latenessOfStart opening day s))
 
   -- With a start there is a worst lateness.
   worst-some : (done : List Start) (s : Start) →
-      worstSoFar day (done ++ (s ∷ [])) ≡ some (worstOf (map (latenessOfStart day) (done ++ (s ∷ []))))
+      worstSoFar opening day (done ++ (s ∷ [])) ≡ some (worstOf (map (latenessOfStart opening day) (done ++ (s ∷ []))))
   unfolding worstSoFar
   worst-some [] s = refl
   worst-some (r ∷ rs) s = refl
 
-  pub worst-told : (done : List Start) (i m : ℕ) →
-      worstAt (standing day done) i m ≡ worstOf (map (latenessOfStart day) (done ++ (record { row = i; minute = m } ∷ [])))
-  worst-told done i m =
+  pub worst-told : (done : List Start) (i m : ℕ) → OfDay day i →
+      worstAt (standing opening day done) i m ≡ worstOf (map (latenessOfStart opening day) (done ++ (record { row = i; minute = m } ∷ [])))
+  worst-told done i m h =
       let s : Start = record { row = i; minute = m } in
-      rw (job-held day i) (Option·some-injective _ _ (sym (worst-on done s) ∙ worst-some done s))
+      rw (job-held opening day i h) (Option·some-injective _ _ (sym (worst-on done s) ∙ worst-some done s))
 
-  pub end-told : (done : List Start) (i m : ℕ) → endAt (standing day done) i m ≡ endOfStart day (record { row = i; minute = m })
-  end-told done i m = rw (job-held day i)
+  pub end-told : (done : List Start) (i m : ℕ) → OfDay day i →
+      endAt (standing opening day done) i m ≡ endOfStart opening day (record { row = i; minute = m })
+  end-told done i m h = rw (job-held opening day i h)
 
-  minute-on : (t : ℕ) (done : List Start) (s : Start) → minuteAfter day t (done ++ (s ∷ [])) ≡ endOfStart day s
+  minute-on : (t : ℕ) (done : List Start) (s : Start) → minuteAfter opening day t (done ++ (s ∷ [])) ≡ endOfStart opening day s
   unfolding minuteAfter
   minute-on t [] s = refl
-  minute-on t (r ∷ rs) s = minute-on (endOfStart day r) rs s
+  minute-on t (r ∷ rs) s = minute-on (endOfStart opening day r) rs s
 
   -- A desk after starts, and the row i started on it at the minute m.
-  pub one-more : (done : List Start) (i m : ℕ) →
-      standing day (done ++ (record { row = i; minute = m } ∷ [])) ≡ moved (standing day done) i m
-  one-more done i m =
+  pub one-more : (done : List Start) (i m : ℕ) → OfDay day i →
+      standing opening day (done ++ (record { row = i; minute = m } ∷ [])) ≡ moved (standing opening day done) i m
+  one-more done i m h =
       let s : Start = record { row = i; minute = m } in
-      rw (left-on done s 1 (length (day .rows)), minute-on (day .free) done s, worst-on done s, job-held day i)
+      rw (left-on done s 1 (length (day .rows)), minute-on (day .free) done s, worst-on done s, job-held opening day i h)

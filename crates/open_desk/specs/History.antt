@@ -17,9 +17,9 @@ use Rattle.desk_start.specs.Starts.{startCall}
 use Rattle.desk_plans.specs.Plans.{deskListCall, deskPlanCall}
 use Rattle.open_desk.specs.Answers.{saidOpen, saidStart}
 
--- The offered calls: opening lent words with a book and opening minutes; and on these words, a start of a row at a minute, the list into a buffer, and the
--- order of a listed plan by its number from 1. What is lent for writing is given with the answer, as it is after the call: the desk's words
--- by the first two, the buffer by the others. These are lent the desk for reading.
+-- The offered calls: opening lent words with a book, told the opening minutes; and on these words, a start of a row at a minute, the list
+-- into a buffer, and the order of a listed plan by its number from 1. What is lent for writing is given with the answer, as it is after the
+-- call: the desk's words by the first two, the buffer by the others. These are lent the desk for reading.
 abbrev pub deskOpen : (opening : ℕ) → (book ws : List ℕ) → Outcome Said
 deskOpen opening book ws = told saidOpen (openCall opening book ws)
 

@@ -34,11 +34,12 @@ abbrev pub _gets_ : Call → Outcome Said → Asked
 c gets r = record { call = c; reply = r }
 
 infix 10 _gets_
--- A morning: the book, the reply to its opening, the calls in turn, and what the desk then holds: the rows left, its minute, and the
--- worst lateness so far.
+-- A morning: the book and the opening minutes that a desk is opened with, the reply to that, the calls in turn, and what the desk then
+-- holds: the rows left, its minute, and the worst lateness so far.
 pub record Morning : Type 0 where
   pub book : List ℕ
-  pub opening : Outcome Said
+  pub opening : ℕ
+  pub told : Outcome Said
   pub calls : List Asked
   pub holds : List ℕ × ℕ × Option ℤ
 
@@ -76,11 +77,12 @@ answered ws (a ∷ rest) = (a .call gets replyTo ws (a .call)) ∷ answered (aft
 -- A morning as the definitions give it, on 1,288 words that are all 0 before the opening.
 abbrev pub workedOut : Morning → Morning
 workedOut m =
-    let first = deskOpen (m .book) (replicate deskWords 0) in
+    let first = deskOpen (m .opening) (m .book) (replicate deskWords 0) in
     let last = running (after (first .buffer) (map (λ (a : Asked). a .call) (m .calls))) in
     record {
       book = m .book;
-      opening = gives (first .answer) [];
+      opening = m .opening;
+      told = gives (first .answer) [];
       calls = answered (first .buffer) (m .calls);
       holds = (last .left, last .minute, last .worst);
     }
@@ -109,7 +111,8 @@ mornings =
     -- Row 1 starts at its release; of two plans one is left. After the last row there are no plans: every plan's number is refused.
     record {
       book = twoRows 12;
-      opening = opened 2 0;
+      opening = 0;
+      told = opened 2 0;
       calls =
           (lists (0 ∷ 0 ∷ 0 ∷ 0 ∷ []) gets plans 2 (11 ∷ 6 ∷ 12 ∷ 0 ∷ [])) ∷
           (starts 1 1 gets moved 2 (negsuc 2)) ∷
@@ -126,7 +129,8 @@ mornings =
     -- The desk stands idle before a start, as long as the reader likes; the list goes on from the end of that row.
     record {
       book = twoRows 12;
-      opening = opened 2 0;
+      opening = 0;
+      told = opened 2 0;
       calls =
           (starts 2 4 gets moved 14 (pos 2)) ∷
           (lists (0 ∷ 0 ∷ []) gets plans 1 (15 ∷ 10 ∷ [])) ∷
@@ -138,7 +142,8 @@ mornings =
     -- minute; before the desk's minute. The desk goes on as if they had not been called.
     record {
       book = twoRows 12;
-      opening = opened 2 0;
+      opening = 0;
+      told = opened 2 0;
       calls =
           (starts 0 0 gets refused 11 2 []) ∷
           (starts 3 0 gets refused 11 2 []) ∷
@@ -156,13 +161,15 @@ mornings =
     -- Early work: the worst lateness so far is none, then -3, then -1. The row left keeps its number.
     record {
       book = equalRows;
-      opening = opened 2 0;
+      opening = 0;
+      told = opened 2 0;
       calls = [];
       holds = (1 ∷ 2 ∷ [], 0, none);
     } ∷
     record {
       book = equalRows;
-      opening = opened 2 0;
+      opening = 0;
+      told = opened 2 0;
       calls =
           (starts 1 0 gets moved 2 (negsuc 2)) ∷
           (lists (0 ∷ 0 ∷ []) gets plans 1 (4 ∷ 4294967295 ∷ [])) ∷
@@ -174,7 +181,8 @@ mornings =
     -- The list has the latenesses of the rows left alone: -2, where the worst so far is 6 and stays so.
     record {
       book = threeRows;
-      opening = opened 3 0;
+      opening = 0;
+      told = opened 3 0;
       calls =
           (starts 2 0 gets moved 10 (negsuc 1)) ∷
           (starts 1 10 gets moved 11 (pos 6)) ∷
@@ -187,7 +195,8 @@ mornings =
     -- one in an order. A plan's number is looked at before the buffer.
     record {
       book = fourRows;
-      opening = opened 4 0;
+      opening = 0;
+      told = opened 4 0;
       calls =
           (lists (0 ∷ 0 ∷ 0 ∷ 0 ∷ 0 ∷ 0 ∷ 0 ∷ []) gets refused 9 0 (0 ∷ 0 ∷ 0 ∷ 0 ∷ 0 ∷ 0 ∷ 0 ∷ [])) ∷
           (lists (0 ∷ 0 ∷ 0 ∷ 0 ∷ 0 ∷ 0 ∷ 0 ∷ 0 ∷ []) gets plans 2 (121 ∷ 17 ∷ 122 ∷ 0 ∷ 0 ∷ 0 ∷ 0 ∷ 0 ∷ [])) ∷
@@ -208,7 +217,8 @@ mornings =
     -- Past minute 20,000,000: the latest start of the longest row. The list goes on; no further row can be started.
     record {
       book = longRows;
-      opening = opened 2 10000000;
+      opening = 0;
+      told = opened 2 10000000;
       calls =
           (starts 1 20000000 gets moved 20030000 (pos 20030000)) ∷
           (lists (0 ∷ 0 ∷ []) gets plans 1 (20060000 ∷ 20060000 ∷ [])) ∷
@@ -218,17 +228,89 @@ mornings =
           [];
       holds = (2 ∷ [], 20030000, some (pos 20030000));
     } ∷
+    -- The same with the most opening minutes: the latest minute at which a desk stands.
+    record {
+      book = longRows;
+      opening = 30;
+      told = opened 2 10000000;
+      calls =
+          (starts 1 20000000 gets moved 20030030 (pos 20030030)) ∷
+          (lists (0 ∷ 0 ∷ []) gets plans 1 (20060060 ∷ 20060060 ∷ [])) ∷
+          (orders 1 (0 ∷ []) gets order 20060060 (pos 20060060) (2 ∷ [])) ∷
+          (starts 2 20030030 gets refused 15 0 []) ∷
+          [];
+      holds = (2 ∷ [], 20030030, some (pos 20030030));
+    } ∷
+    -- One opening minute: each start moves the desk by one minute more than the length, and the list counts it for each row left.
+    record {
+      book = twoRows 12;
+      opening = 1;
+      told = opened 2 0;
+      calls =
+          (lists (0 ∷ 0 ∷ 0 ∷ 0 ∷ []) gets plans 2 (13 ∷ 8 ∷ 14 ∷ 2 ∷ [])) ∷
+          (orders 1 (0 ∷ 0 ∷ []) gets order 13 (pos 8) (2 ∷ 1 ∷ [])) ∷
+          (orders 2 (0 ∷ 0 ∷ []) gets order 14 (pos 2) (1 ∷ 2 ∷ [])) ∷
+          (starts 1 1 gets moved 3 (negsuc 1)) ∷
+          (lists (0 ∷ 0 ∷ 7 ∷ []) gets plans 1 (14 ∷ 2 ∷ 7 ∷ [])) ∷
+          (orders 1 (0 ∷ []) gets order 14 (pos 2) (2 ∷ [])) ∷
+          (starts 2 2 gets refused 15 0 []) ∷
+          (starts 2 3 gets moved 14 (pos 2)) ∷
+          [];
+      holds = ([], 14, some (pos 2));
+    } ∷
+    -- One book without opening minutes and with thirty: another order is then the plan.
+    record {
+      book = threeRows;
+      opening = 0;
+      told = opened 3 0;
+      calls =
+          (lists (0 ∷ 0 ∷ 0 ∷ 0 ∷ 0 ∷ 0 ∷ []) gets plans 1 (25 ∷ 0 ∷ 0 ∷ 0 ∷ 0 ∷ 0 ∷ [])) ∷
+          (orders 1 (0 ∷ 0 ∷ 0 ∷ []) gets order 25 (pos 0) (1 ∷ 2 ∷ 3 ∷ [])) ∷
+          [];
+      holds = (1 ∷ 2 ∷ 3 ∷ [], 0, none);
+    } ∷
+    record {
+      book = threeRows;
+      opening = 30;
+      told = opened 3 0;
+      calls =
+          (lists (0 ∷ 0 ∷ 0 ∷ 0 ∷ 0 ∷ 0 ∷ []) gets plans 1 (106 ∷ 79 ∷ 0 ∷ 0 ∷ 0 ∷ 0 ∷ [])) ∷
+          (orders 1 (0 ∷ 0 ∷ 0 ∷ []) gets order 106 (pos 79) (2 ∷ 1 ∷ 3 ∷ [])) ∷
+          (starts 2 0 gets moved 40 (pos 28)) ∷
+          (starts 1 40 gets moved 71 (pos 66)) ∷
+          (lists (0 ∷ 0 ∷ []) gets plans 1 (106 ∷ 79 ∷ [])) ∷
+          (starts 3 71 gets moved 106 (pos 79)) ∷
+          [];
+      holds = ([], 106, some (pos 79));
+    } ∷
+    -- Opening minutes past 30 are refused whatever the book is, also words that are none: nothing is written, and the words are no desk.
+    record {
+      book = twoRows 12;
+      opening = 31;
+      told = refused 3 0 [];
+      calls = (starts 1 1 gets refused 3 0 []) ∷ [];
+      holds = ([], 0, none);
+    } ∷
+    record {
+      book = 7 ∷ [];
+      opening = 31;
+      told = refused 3 0 [];
+      calls = [];
+      holds = ([], 0, none);
+    } ∷
     -- A class due: row 1 is due 75.
     record {
       book = classRow;
-      opening = opened 1 0;
+      opening = 0;
+      told = opened 1 0;
       calls = (starts 1 10 gets moved 15 (negsuc 59)) ∷ [];
       holds = ([], 15, some (negsuc 59));
     } ∷
     -- M8's book is refused: nothing is written, and the words are no desk.
     record {
       book = twoRows 14;
-      opening = refused 8 6 [];
+      opening = 0;
+      told = refused 8 6 [];
       calls =
           (starts 1 1 gets refused 3 0 []) ∷
           (lists (7 ∷ []) gets refused 3 0 (7 ∷ [])) ∷

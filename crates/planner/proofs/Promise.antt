@@ -2,16 +2,17 @@
 --
 -- The contract of each offered function says that its answer and its buffer at exit are those of its call (list, order_for_bound,
 -- order_of_plan, verdict: Calls; row_place, row_words: Places of row_calls) by these terms, whatever it is lent and told. So what the
--- properties say of the calls holds of the functions. Assumes nothing.
+-- properties say of the calls, with whatever opening minutes, holds of the functions. Assumes nothing.
+use Prim.Native.Nat.{ℕ}
 use Rattle.promises.specs.Promise.{Property1, Property2, Property3}
 use Rattle.promises.proofs.Promise as of-calls
 use Rattle.readers.specs.Reads.{orderingRule}
 
-pub lent-memory : Property1 orderingRule
-lent-memory = of-calls.lent-memory orderingRule
+pub lent-memory : (opening : ℕ) → Property1 (orderingRule opening)
+lent-memory opening = of-calls.lent-memory (orderingRule opening)
 
-pub definitions-hold : Property2 orderingRule
-definitions-hold = of-calls.definitions-hold orderingRule
+pub definitions-hold : (opening : ℕ) → Property2 (orderingRule opening)
+definitions-hold opening = of-calls.definitions-hold (orderingRule opening)
 
-pub cover-holds : Property3 orderingRule
-cover-holds = of-calls.cover-holds orderingRule
+pub cover-holds : (opening : ℕ) → Property3 (orderingRule opening)
+cover-holds opening = of-calls.cover-holds (orderingRule opening)

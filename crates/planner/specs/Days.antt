@@ -1,5 +1,5 @@
--- The days worked through, M1 to M13, days with classes, with rows as they arrive and with reading times between whole minutes: the
--- table, and the theorem that every entry holds of the definitions. Rests on: the calls' Days.
+-- The days worked through, M1 to M13, days with classes, with rows as they arrive, with reading times between whole minutes and with
+-- opening minutes: the table, and the theorem that every entry holds of the definitions. Rests on: the calls' Days.
 use Prim.Native.Nat.{ℕ}
 use mathlib.Core.Path.{_≡_, refl}
 use mathlib.Core.List.{List, [], _∷_, map}
@@ -24,7 +24,7 @@ use Rattle.calls.specs.Calls.{openCalls}
 use Rattle.calls.specs.Lines.{listing, openLines}
 use Rattle.calls.specs.Days.{entry, sold, reading, printing, list, bound, plan, posting, rowWordsOf, rowPlaceOf, lengthOf}
 use Rattle.calls.specs.Days.{reads, prints, lists, judges, words, finds, takes, lasts, due, plans, order, turnedDown, line}
-use Rattle.calls.specs.Days.{Worked, _gets_, answerTo, Hold, hold}
+use Rattle.calls.specs.Days.{Worked, _gets_, withMinutes, answerBy, Hold, hold}
 use Rattle.readers.specs.Reads.{orderingRule}
 
 -- M1's book, with the due of row 2 open for M7 and M8, also with its rows swapped; M2 to M6; M9; M10; M13, also with its rows mixed.
@@ -168,9 +168,29 @@ days =
     (printing (nearestRows 12) gets prints (listing 2 (line 11 (pos 6) (902 ∷ 901 ∷ []) ∷ line 12 (pos 0) (901 ∷ 902 ∷ []) ∷ []))) ∷
     (list (nearestRows 13) (0 ∷ 0 ∷ 0 ∷ 0 ∷ []) gets plans 2 (11 ∷ 6 ∷ 12 ∷ 4294967295 ∷ [])) ∷
     (reading (nearestRows 14) gets reads (refused 8 6)) ∷
+    -- Opening 1 and 30 minutes, in M1, M2 and M13: each row takes so much longer. With 30, the one plan of M2 takes row 2 first.
+    withMinutes 1 (list (twoRows 12) (0 ∷ 0 ∷ 0 ∷ 0 ∷ []) gets plans 2 (13 ∷ 8 ∷ 14 ∷ 2 ∷ [])) ∷
+    withMinutes 1 (bound threeRows (pos 8) (0 ∷ 0 ∷ 0 ∷ []) gets order 26 (pos 8) (2 ∷ 1 ∷ 3 ∷ [])) ∷
+    withMinutes 1 (bound threeRows (pos 1) (0 ∷ 0 ∷ 0 ∷ []) gets turnedDown 12 0 (0 ∷ 0 ∷ 0 ∷ [])) ∷
+    withMinutes 1 (posting threeRows (2 ∷ 1 ∷ 3 ∷ []) gets judges (verdict-answer.Beaten 26 (pos 8) 1)) ∷
+    withMinutes 30 (list (twoRows 12) (0 ∷ 0 ∷ 0 ∷ 0 ∷ []) gets plans 2 (71 ∷ 66 ∷ 72 ∷ 60 ∷ [])) ∷
+    withMinutes 30 (list threeRows (0 ∷ 0 ∷ 0 ∷ 0 ∷ 0 ∷ 0 ∷ []) gets plans 1 (106 ∷ 79 ∷ 0 ∷ 0 ∷ 0 ∷ 0 ∷ [])) ∷
+    withMinutes 30 (posting threeRows (1 ∷ 2 ∷ 3 ∷ []) gets judges (verdict-answer.Beaten 107 (pos 80) 1)) ∷
+    withMinutes 30 (plan fourRows 2 (0 ∷ 0 ∷ 0 ∷ 0 ∷ []) gets order 182 (pos 60) (1 ∷ 2 ∷ 3 ∷ 4 ∷ [])) ∷
+    -- Disorder, class dues and ranks count no opening.
+    withMinutes 30 (reading (twoRows 14) gets reads (refused 8 6)) ∷
+    withMinutes 30 (reading (classRow 0) gets due 75 0) ∷
+    withMinutes 30 (list classAndDue (0 ∷ 0 ∷ 0 ∷ 0 ∷ []) gets plans 2 (71 ∷ 9 ∷ 72 ∷ 2 ∷ [])) ∷
+    withMinutes 30 (plan (tiedRows 0 8 4 3) 1 (0 ∷ 0 ∷ []) gets order 81 (pos 51) (2 ∷ 1 ∷ [])) ∷
+    -- 31 minutes are refused before the book and the buffer are looked at. A row's words are told no opening.
+    withMinutes 31 (list [] [] gets lists (gives (list-answer.Refused 3 0) [])) ∷
+    withMinutes 31 (bound (twoRows 14) (pos 0) (7 ∷ []) gets turnedDown 3 0 (7 ∷ [])) ∷
+    withMinutes 31 (plan (twoRows 12) 3 [] gets turnedDown 3 0 []) ∷
+    withMinutes 31 (posting (twoRows 12) [] gets judges (verdict-answer.Refused 3 0)) ∷
+    withMinutes 31 (rowPlaceOf fourRows 2 gets finds (row-place.At 6)) ∷
     []
 
-answered : map (λ (d : Worked). answerTo orderingRule (d .asked)) days ≡ map (λ (d : Worked). d .told) days
+answered : map (answerBy orderingRule) days ≡ map (λ (d : Worked). d .told) days
 unfolding openRows openDesk openPicks openPlans openProfiles openPlaces openPosting openResults openCalls openLines
 answered = refl
 

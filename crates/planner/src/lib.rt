@@ -17,28 +17,44 @@ use schedule::Profile;
 pub fn list(opening: u32, book: &[u32], result: &mut [u32]) -> ListAnswer
     ensures { λ r. ⌜ gives r (now (result .exit)) ≡ listCall (orderingRule opening) (now (book .entry)) (now (result .entry)) ⌝ }
 {
-    calls::list(Terms::ordering_rule(opening), book, result)
+    let terms = Terms {
+        profile: Profile::Ordering,
+        opening: opening,
+    };
+    calls::list(terms, book, result)
 }
 
 // The order for a bound on lateness: its row numbers, and its own pair.
 pub fn order_for_bound(opening: u32, book: &[u32], bound: i32, result: &mut [u32]) -> OrderAnswer
     ensures { λ r. ⌜ gives r (now (result .exit)) ≡ boundCall (orderingRule opening) (now (book .entry)) bound (now (result .entry)) ⌝ }
 {
-    calls::order_for_bound(Terms::ordering_rule(opening), book, bound, result)
+    let terms = Terms {
+        profile: Profile::Ordering,
+        opening: opening,
+    };
+    calls::order_for_bound(terms, book, bound, result)
 }
 
 // The order of a listed plan by its number from 1: the order for the bound equal to its lateness.
 pub fn order_of_plan(opening: u32, book: &[u32], plan: u32, result: &mut [u32]) -> OrderAnswer
     ensures { λ r. ⌜ gives r (now (result .exit)) ≡ planCall (orderingRule opening) (now (book .entry)) plan (now (result .entry)) ⌝ }
 {
-    calls::order_of_plan(Terms::ordering_rule(opening), book, plan, result)
+    let terms = Terms {
+        profile: Profile::Ordering,
+        opening: opening,
+    };
+    calls::order_of_plan(terms, book, plan, result)
 }
 
 // The verdict on a posted order of row numbers: its own pair, and the first listed plan that beats it.
 pub fn verdict(opening: u32, book: &[u32], posting: &[u32]) -> VerdictAnswer
     ensures { λ r. ⌜ r ≡ verdictCall (orderingRule opening) (now (book .entry)) (now (posting .entry)) ⌝ }
 {
-    calls::verdict(Terms::ordering_rule(opening), book, posting)
+    let terms = Terms {
+        profile: Profile::Ordering,
+        opening: opening,
+    };
+    calls::verdict(terms, book, posting)
 }
 
 // The place of a row's number word, rows counted from 1, or the refusal.

@@ -8,7 +8,8 @@ use Rattle.schedule.specs.declared.Profile.{Profile}
 use Rattle.schedule.specs.declared.Profile.the-variants.{Ordering, FirstCome}
 use Rattle.schedule.specs.Rows.{Day}
 use Rattle.grammar.specs.Words.{Wrong, cut, kind, range, twice, full, count, tail}
-use Rattle.promises.specs.Table.{BookRefused, by-word, disorder, crossed, Turned, by-book, by-call}
+use Rattle.readers.specs.declared.Terms.{Terms}
+use Rattle.promises.specs.Table.{BookRefused, by-word, disorder, crossed, Turned, by-opening, by-book, by-call}
 use Rattle.promises.specs.Promise.{InTable}
 
 pub wrong-numbered : {book : List ℕ} {n p : ℕ} → Wrong book n p → (1 ≤ n) × (n ≤ 7)
@@ -33,10 +34,11 @@ book-numbered {profile} (by-word n p f) = up-to-7 profile n (wrong-numbered (f .
 book-numbered (disorder e day t k c) = subst (λ (x : Profile). InTable x 8) (sym e) (omega arith, omega arith)
 book-numbered (crossed e day t k c) = subst (λ (x : Profile). InTable x 13) (sym e) (omega arith, omega arith, λ e. omega arith)
 
-pub turned-numbered : {profile : Profile} {book : List ℕ} {Own : Day → (n p : ℕ) → Type 0} {n p : ℕ} →
-    ((day : Day) (n p : ℕ) → Own day n p → (9 ≤ n) × (n ≤ 12)) → Turned profile book Own n p → InTable profile n
-turned-numbered f (by-book r) = book-numbered r
-turned-numbered {profile} {book} {Own} {n} {p} f (by-call day a o) = from-9 profile n (f day n p o)
+pub turned-numbered : {terms : Terms} {book : List ℕ} {Own : Day → (n p : ℕ) → Type 0} {n p : ℕ} →
+    ((day : Day) (n p : ℕ) → Own day n p → (9 ≤ n) × (n ≤ 12)) → Turned terms book Own n p → InTable (terms .profile) n
+turned-numbered {terms} f (by-opening h) = up-to-7 (terms .profile) 3 (omega arith, omega arith)
+turned-numbered f (by-book n p h r) = book-numbered r
+turned-numbered {terms} f (by-call n p day t o) = from-9 (terms .profile) n (f day n p o)
 
 -- And they are numbers from 1 on.
 pub from-1 : (profile : Profile) {n : ℕ} → InTable profile n → 1 ≤ n

@@ -12,17 +12,19 @@ use lib.Dec.{ltb, eqb}
 use lib.ListN.{length, getD}
 use lib.IntN.{ℤ, pos}
 use borrow.Author.Tests.{lt-ltb, le-ltb, ne-eqb}
+use Rattle.schedule.specs.Limits.{mostOpening}
 use Rattle.schedule.specs.Rows.{Day}
 use Rattle.schedule.specs.Desk.{Pair, pairOf}
 use Rattle.schedule.specs.Plans.{firstBeating}
 use Rattle.schedule.proofs.Tests.{false-is-true}
 use Rattle.refusals.specs.declared.Tested.{Tested}
 use Rattle.refusals.specs.declared.Tested.the-variants as tested
-use Rattle.refusals.specs.Refusals.{byUnlisted, byNarrow, byUnkept}
+use Rattle.refusals.specs.Refusals.{byRange, byUnlisted, byNarrow, byUnkept}
 use Rattle.pairs.specs.Pairs.{numberWord}
 use Rattle.book.specs.Rows.{Contents, refused, accepted}
 use Rattle.readers.specs.declared.Terms.{Terms}
 use Rattle.readers.specs.Reads.{readBy}
+use Rattle.readers.proofs.Told.{told-reads, untold-refused}
 use Rattle.row_calls.specs.declared.RowPlace.{RowPlace}
 use Rattle.row_calls.specs.declared.RowPlace.the-variants.{At, Refused}
 use Rattle.row_calls.specs.Places.{placeIn}
@@ -36,9 +38,9 @@ use Rattle.outcomes.proofs.OutcomeLaws.{order-narrow, order-some, order-none}
 use Rattle.calls.specs.Answers.{Said, saidNo, saidList, saidOrder, saidVerdict, saidPlace}
 use Rattle.promises.specs.Vocabulary.{Refuses}
 use Rattle.promises.specs.Table as table
-use Rattle.promises.specs.Table.{Turned, by-book, by-call, ListTurned, BoundTurned, PlanTurned, VerdictTurned, RowTurned}
+use Rattle.promises.specs.Table.{Turned, by-opening, by-book, by-call, ListTurned, BoundTurned, PlanTurned, VerdictTurned, RowTurned}
 use Rattle.promises.proofs.Listed.{nth-mem}
-use Rattle.promises.proofs.Accepted.{accepts, book-refused}
+use Rattle.promises.proofs.Accepted.{refusal-is, takes, book-refused}
 use Rattle.promises.proofs.Numbers.{from-1, book-numbered}
 use Rattle.promises.proofs.Posted.{posting-turned}
 
@@ -57,27 +59,39 @@ module _ (said : Said) (Turns : (n p : ℕ) → Type 0) where
   pub says-yes : said .number ≡ 0 → ((n p : ℕ) → ¬ Turns n p) → (n p : ℕ) → Refuses said n p ↔ Turns n p
   says-yes e f n p = (λ h. let z : ⊥ = omega (arith, h .0, h .1) in absurd z, λ t. absurd (f n p t))
 
--- By the book, and by a condition of the call's own.
+-- By the opening minutes, by the book, and by a condition of the call's own.
 module _ (terms : Terms) (book : List ℕ) (Own : Day → (n p : ℕ) → Type 0) (said : Said) where
   pub turned : ((n p : ℕ) → readBy terms book ≡ refused n p → said ≡ saidNo n p) →
       ((day : Day) → readBy terms book ≡ accepted day → (n p : ℕ) → Refuses said n p ↔ Own day n p) →
-      (n p : ℕ) → Refuses said n p ↔ Turned (terms .profile) book Own n p
-  turned book-no own n p = (λ h. there h (readBy terms book) refl, back)
+      (n p : ℕ) → Refuses said n p ↔ Turned terms book Own n p
+  turned book-no own n p = (λ h. there h (readBy terms book) refl, back n p)
     where
-      there : Refuses said n p → (x : Contents) → readBy terms book ≡ x → Turned (terms .profile) book Own n p
+      -- A refusal of the opening or the book, by its number and place.
+      by-contents : (m q : ℕ) → readBy terms book ≡ refused m q → Dec (terms .opening ≤ mostOpening) → Turned terms book Own m q
+      by-contents m q e (yes h) = by-book m q h (book-refused (terms .profile) book m q .0 (sym (told-reads terms book h) ∙ e))
+      by-contents m q e (no h) =
+          let s = refusal-is (sym (untold-refused terms book (omega arith)) ∙ e) in
+          subst (λ (x : ℕ). Turned terms book Own x q) (s .0)
+          (subst (Turned terms book Own byRange) (s .1) (by-opening (omega arith)))
+
+      there : Refuses said n p → (x : Contents) → readBy terms book ≡ x → Turned terms book Own n p
       there h (refused m q) e =
           let s = book-no m q e in
           let f : m ≡ n = sym (ap (λ (s : Said). s .number) s) ∙ h .1 in
           let g : q ≡ p = sym (ap (λ (s : Said). s .place) s) ∙ h .2 in
-          by-book (book-refused terms book n p .0 (e ∙ (λ i. refused (f i) (g i))))
-      there h (accepted day) e = by-call day (accepts terms book day .0 e) (own day e n p .0 h)
+          by-contents n p (e ∙ (λ i. refused (f i) (g i))) (decLe (terms .opening) mostOpening)
+      there h (accepted day) e = by-call n p day (takes terms book day .0 e) (own day e n p .0 h)
 
-      back : Turned (terms .profile) book Own n p → Refuses said n p
-      back (by-book r) =
-          let e = book-refused terms book n p .1 r in
-          let s = book-no n p e in
-          (from-1 (terms .profile) (book-numbered r), ap (λ (s : Said). s .number) s, ap (λ (s : Said). s .place) s)
-      back (by-call day a o) = own day (accepts terms book day .1 a) n p .1 o
+      refuses : (m q : ℕ) → 1 ≤ m → readBy terms book ≡ refused m q → Refuses said m q
+      refuses m q low e =
+          let s = book-no m q e in
+          (low, ap (λ (s : Said). s .number) s, ap (λ (s : Said). s .place) s)
+
+      back : (m q : ℕ) → Turned terms book Own m q → Refuses said m q
+      back _ _ (by-opening h) = refuses byRange 0 (omega arith) (untold-refused terms book h)
+      back _ _ (by-book m q h r) =
+          refuses m q (from-1 (terms .profile) (book-numbered r)) (told-reads terms book h ∙ book-refused (terms .profile) book m q .1 r)
+      back _ _ (by-call m q day t o) = own day (takes terms book day .1 t) m q .1 o
 
 -- The calls on what is planned.
 module _ (g : Planning) where

@@ -1,8 +1,8 @@
 -- The three properties of the offered calls, for every book, bound, plan number, posting and buffer. `terms` is what the calls are told:
--- `orderingRule` (readers) or `firstCome` (first_come), with any opening minutes. The proofs are `lent-memory`, `definitions-hold` and
--- `cover-holds`, in proofs/Promise.antt. That each function does what is said here of its call is its contract (planner/src, first_come/src).
+-- `orderingRule` or `firstCome` (readers) with any opening minutes. The proofs are `lent-memory`, `definitions-hold` and `cover-holds`, in
+-- proofs/Promise.antt. That each function does what is said here of its call is its contract (planner/src, first_come/src).
 -- Rests on: Vocabulary, Table, the grammar of books, the schedule.
-use Prim.Native.Nat.{ℕ, _+_, _*_, _≤_, _<_}
+use Prim.Native.Nat.{ℕ, _*_, _≤_, _<_}
 use mathlib.Core.Path.{_≡_}
 use mathlib.Core.List.{List, [], List·Memᴰ}
 use mathlib.Core.Logic.{_↔_}
@@ -16,9 +16,10 @@ use Rattle.schedule.specs.declared.Profile.{Profile}
 use Rattle.schedule.specs.declared.Profile.the-variants.{Ordering, FirstCome}
 use Rattle.schedule.specs.declared.Class.the-variants.{Of}
 use Rattle.schedule.specs.Rows.{row, job, Day, jobs, rowNumbers}
-use Rattle.schedule.specs.Desk.{Pair, OrderOf, Attains, endOf, idleOf, lengthsOf, pairOf}
+use Rattle.schedule.specs.Desk.{Pair, OrderOf, Attains, endOf, pairOf}
 use Rattle.schedule.specs.Plans.{plans, firstBeating}
 use Rattle.schedule.specs.Cover.{Rising}
+use Rattle.schedule.specs.Opening.{OpeningLaws}
 use Rattle.refusals.specs.Refusals.{byUnkept}
 use Rattle.row_reader.specs.NearestMinute.{NearestMinute}
 use Rattle.pairs.specs.Pairs.{numberWord}
@@ -31,7 +32,7 @@ use Rattle.outcomes.specs.Planning.{Outcome, gives, nth, Planning}
 use Rattle.calls.specs.Answers.{Said, saidNo}
 use Rattle.calls.specs.Calls.{planned}
 use Rattle.promises.specs.Vocabulary.{saidCount, saidPair, saidJudged, saidAt, Refuses, listed, ReaderOrder, endBy, lateBy, pairBy}
-use Rattle.promises.specs.Vocabulary.{list, bound, plan, verdict, place, words, NoneBeats, EndsSooner, LessLate, Takes}
+use Rattle.promises.specs.Vocabulary.{list, bound, plan, verdict, place, words, NoneBeats, EndsSooner, LessLate, Accepts, Takes}
 use Rattle.promises.specs.Table.{Turned, ListTurned, BoundTurned, PlanTurned, VerdictTurned, RowTurned}
 
 -- # 1. The lent memory
@@ -87,10 +88,9 @@ module _ (terms : Terms) (book : List ℕ) (day : Day) where
         saidJudged pair (orZero (firstBeating 1 front pair))
     pub of-row : (k : ℕ) → 1 ≤ k → k ≤ length (day .rows) →
         (place terms book k ≡ saidAt (numberWord k)) × (words terms book k ≡ take 4 (drop (numberWord k) book))
-    -- Idle plus openings plus lengths is end minus the free minute: of all n rows, n openings.
-    pub sum : (order : List ℕ) → OrderOf (rowNumbers day) order →
-        day .free + (idleOf seen (day .free) order + length (day .rows) * terms .opening + lengthsOf (job (day .rows)) order) ≡
-        endOf seen (day .free) order
+    -- Each row takes opening plus length; neither the rule of the rows nor ranks nor dues count opening; and of an order of n rows, idle
+    -- plus n openings plus lengths is end minus the free minute.
+    pub opening : OpeningLaws (terms .opening) (job (day .rows))
     -- Ends are at most 17,687,680 and lateness lies between -19,999,999 and 17,687,680.
     pub ranges : (order : List ℕ) → OrderOf (rowNumbers day) order →
         (endOf seen (day .free) order ≤ latestBookEnd) ×

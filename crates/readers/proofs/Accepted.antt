@@ -6,12 +6,13 @@ use native.Mathlib.Decide.{decLe}
 use mathlib.Core.Path.{_≡_}
 use mathlib.Core.List.{List}
 use lib.ListN.{length, List·getD-eq-default}
-use Rattle.schedule.specs.Limits.{mostRows, latestMinute, longestLength, latestDue}
+use Rattle.schedule.specs.Limits.{mostRows, latestMinute, longestLength, longestTime, latestDue}
 use Rattle.schedule.specs.declared.Row.{Row}
 use Rattle.schedule.specs.declared.Profile.{Profile}
 use Rattle.schedule.specs.Rows.{noRow, job, Day, jobs, rowNumbers}
 use Rattle.schedule.specs.Ranges.{Ranged}
 use Rattle.schedule.proofs.Numbers.{length-count}
+use Rattle.schedule.proofs.Opening.{opening-laws}
 use Rattle.pairs.proofs.Clashes.{passed-none}
 use Rattle.book.specs.Rows.{accepted}
 use Rattle.book.specs.Book.{readWords}
@@ -20,10 +21,11 @@ use Rattle.book.proofs.Readings.{AllLimited, all-limited}
 use Rattle.rows.specs.InColumns.{Within}
 use Rattle.readers.specs.declared.Terms.{Terms}
 use Rattle.readers.specs.Rules.{numberBy, ruleTests}
-use Rattle.readers.specs.Reads.{readBy}
+use Rattle.readers.specs.Reads.{readFor, readBy}
 use Rattle.readers.specs.Accepted.{AcceptedDay, DaysAccepted}
 use Rattle.readers.proofs.Rules.{clash-mutual, obeys}
 use Rattle.readers.proofs.Contents.{tested-contents, tested-passed}
+use Rattle.readers.proofs.Told.{accepted-told, accepted-for}
 
 -- A number that no row has stands for no row, which keeps the limits too.
 limits : (rows : List Row) → AllLimited rows → (i : ℕ) → Within latestMinute longestLength latestDue (job rows i)
@@ -36,19 +38,24 @@ limits rows h (suc i) = go (decLe (suc i) (length rows))
         ((omega arith, omega arith, omega arith))
 
 -- An accepted book passed tests 1 to 7.
+pub words-gave : (profile : Profile) (book : List ℕ) (day : Day) → readFor profile book ≡ accepted day → readWords book ≡ accepted day
+unfolding readFor
+words-gave profile book = tested-contents (ruleTests profile) (readWords book)
+
 pub read-words-gave : (terms : Terms) (book : List ℕ) (day : Day) → readBy terms book ≡ accepted day → readWords book ≡ accepted day
-unfolding readBy
-read-words-gave terms book = tested-contents (ruleTests (terms .profile)) (readWords book)
+read-words-gave terms book day e = words-gave (terms .profile) book day (accepted-for terms book day e)
 
 pub accepted-day : DaysAccepted
-unfolding readBy
+unfolding readFor
 accepted-day terms book day e =
     let rows = day .rows in
     let profile = terms .profile in
     let w = whole-words book day (read-words-gave terms book day e) in
+    let passed = tested-passed (ruleTests profile) (readWords book) day (accepted-for terms book day e) in
     record {
-      rule = obeys profile rows
-          (passed-none (clash-mutual profile) (numberBy profile) rows (tested-passed (ruleTests profile) (readWords book) day e));
+      opening = accepted-told terms book day e;
+      rule = opening-laws (terms .opening) (job rows) .rule profile (rowNumbers day) .1
+          (obeys profile rows (passed-none (clash-mutual profile) (numberBy profile) rows passed));
       early = omega (arith, w .free, w .head .free .most);
       some-row = w .some;
       few-rows = w .few;
@@ -56,8 +63,11 @@ accepted-day terms book day e =
       limits = limits rows (all-limited rows (w .ranged));
     }
 
--- The ranges as the schedule asks for them: so ends are at most 17,680,000 and lateness lies between -19,999,999 and 17,680,000.
-pub accepted-ranged : {profile : Profile} {day : Day} → AcceptedDay profile day →
-    Ranged latestMinute 1 longestLength latestDue mostRows (jobs day) (day .free) (rowNumbers day)
-accepted-ranged {profile} {day} a =
-    record { early = a .early; few = omega (arith, length-count 1 (length (day .rows)), a .few-rows); ranges = a .ranged }
+-- The ranges as the schedule asks for them: so ends are at most 17,687,680 and lateness lies between -19,999,999 and 17,687,680.
+pub accepted-ranged : {terms : Terms} {day : Day} → AcceptedDay terms day →
+    Ranged latestMinute 1 longestTime latestDue mostRows (jobs (terms .opening) day) (day .free) (rowNumbers day)
+accepted-ranged {terms} {day} a = record {
+  early = a .early;
+  few = omega (arith, length-count 1 (length (day .rows)), a .few-rows);
+  ranges = λ i m. let r = a .ranged i m in (r .0, omega (arith, r .1), omega (arith, r .2, a .opening), r .3);
+}

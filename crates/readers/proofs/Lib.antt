@@ -2,8 +2,10 @@ pub mod Signed
 pub mod Rules
 pub mod Seconds
 pub mod Contents
+pub mod Told
 pub mod Accepted
 pub mod Settled
 pub mod OneClass
 pub mod Readings
+pub mod Seen
 pub mod OneDay

@@ -3,13 +3,12 @@
 use Prim.Native.Nat.{ℕ, _+_}
 use native.Mathlib.Omega.{arith}
 use mathlib.Core.Bool.{Bool, true, false, _&&_}
-use mathlib.Core.Path.{_≡_, refl, subst, sym}
+use mathlib.Core.Path.{_≡_, refl}
 use mathlib.Core.List.{List·Memᴰ}
 use lib.Dec.{ltb}
 use borrow.Author.Tests.{le-ltb}
 use Rattle.schedule.specs.declared.Row.{Row}
 use Rattle.schedule.specs.declared.Class.the-variants.{Of}
-use Rattle.schedule.specs.declared.Profile.{Profile}
 use Rattle.schedule.specs.declared.Profile.the-variants.{Ordering}
 use Rattle.schedule.specs.Rows.{row, rowNumbers}
 use Rattle.refusals.specs.declared.Tested.the-variants.{Passed}
@@ -19,7 +18,7 @@ use Rattle.row_reader.specs.Margins.{ClassDue}
 use Rattle.book.specs.Book.{readWords}
 use Rattle.book.proofs.Whole.{whole-words, by-number}
 use Rattle.readers.specs.Rules.{tighter, disagree, clashBy, numberBy, ruleTests}
-use Rattle.readers.specs.Reads.{readBy}
+use Rattle.readers.specs.Reads.{readFor}
 use Rattle.readers.specs.OneClass.{OneClass}
 use Rattle.readers.proofs.Signed.{ltZ-sums}
 use Rattle.readers.proofs.Rules.{clash-mutual}
@@ -45,12 +44,10 @@ unfolding clashBy disagree
 class-agrees c r s f g e h = rw (not-tighter c r s f g e h, not-tighter c s r g f h e)
 
 pub one-class : OneClass
-unfolding readBy
-one-class terms book c day ordering reads same =
+unfolding readFor
+one-class book c day reads same =
     let rows = day .rows in
     let due : (i : ℕ) → List·Memᴰ i (rowNumbers day) → ClassDue (row rows i) =
     λ i m. by-number rows (whole-words book day reads .ranged) i m .class in
     let none : NoneClash (clashBy Ordering) rows = λ i j m n. class-agrees c _ _ (due i m) (due j n) (same i m) (same j n) in
-    let passes : ruleTests Ordering rows ≡ Passed = none-passes (clash-mutual Ordering) (numberBy Ordering) rows none in
-    tested-by (ruleTests (terms .profile)) (readWords book) day reads Passed
-    (subst (λ (p : Profile). ruleTests p rows ≡ Passed) (sym ordering) passes)
+    tested-by (ruleTests Ordering) (readWords book) day reads Passed (none-passes (clash-mutual Ordering) (numberBy Ordering) rows none)

@@ -8,7 +8,7 @@ use mathlib.Core.List.{List}
 use lib.Dec.{ltb}
 use lib.Signed.{ltZ}
 use borrow.Author.Tests.{ltb-true, ltb-false, le-ltb, lt-ltb}
-use Rattle.schedule.specs.Limits.{latestMinute, longestLength, latestDue}
+use Rattle.schedule.specs.Limits.{latestMinute, longestTime, latestDue}
 use Rattle.schedule.specs.declared.Row.{Row}
 use Rattle.schedule.specs.declared.Profile.{Profile}
 use Rattle.schedule.specs.declared.Profile.the-variants.{Ordering, FirstCome}
@@ -37,7 +37,7 @@ clash-mutual FirstCome =
 
 -- The limits of a row: those of a book keep them.
 abbrev pub Limited : Row → Type 0
-Limited r = Within latestMinute longestLength latestDue (jobOf r)
+Limited r = Within latestMinute longestTime latestDue (jobOf r)
 
 abbrev second : Profile → Row → ℕ
 second profile r = secondBy profile (jobOf r)

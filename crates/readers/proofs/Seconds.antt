@@ -8,7 +8,7 @@ use mathlib.Core.List.{List}
 use lib.ListN.{length, set, getD, replicate, length-set, length-replicate}
 use lib.Seq.{getD-set-same, getD-set-other}
 use Rattle.theory.specs.Jobs.{Job}
-use Rattle.schedule.specs.Limits.{mostRows, rowPlaces, latestMinute, longestLength, latestDue}
+use Rattle.schedule.specs.Limits.{mostRows, rowPlaces, latestMinute, longestTime, latestDue}
 use Rattle.schedule.specs.declared.Row.{Row}
 use Rattle.schedule.specs.declared.Profile.{Profile}
 use Rattle.schedule.specs.Rows.{row, job}
@@ -43,7 +43,7 @@ module _ (profile : Profile) (jobs : ℕ → Job) where
 
 -- Dues and second numbers tell which rows clash.
 module _ (profile : Profile) (releases minutes dues : List ℕ)
-    (limited : (i : ℕ) → Within latestMinute longestLength latestDue (columns releases minutes dues i)) where
+    (limited : (i : ℕ) → Within latestMinute longestTime latestDue (columns releases minutes dues i)) where
   abbrev told : ℕ → Job
   told = columns releases minutes dues
 
@@ -58,5 +58,5 @@ module _ (profile : Profile) (releases minutes dues : List ℕ)
         ap (λ (z : Job). z .due) a,
         ap (λ (z : Job). z .due) b,
       )
-      (clash-by profile (row rows i) (row rows j) (subst (Within latestMinute longestLength latestDue) a (limited i))
-      (subst (Within latestMinute longestLength latestDue) b (limited j)))
+      (clash-by profile (row rows i) (row rows j) (subst (Within latestMinute longestTime latestDue) a (limited i))
+      (subst (Within latestMinute longestTime latestDue) b (limited j)))

@@ -10,21 +10,21 @@ use Rattle.pairs.proofs.Clashes.{pairs-settled}
 use Rattle.book.specs.Rows.{accepted, refusedOr}
 use Rattle.book.specs.Book.{readWords}
 use Rattle.readers.specs.Rules.{clashBy, numberBy, ruleTests}
-use Rattle.readers.specs.Reads.{readBy}
+use Rattle.readers.specs.Reads.{readFor}
 use Rattle.readers.specs.Settled.{Settled, BooksSettled, unclashing, clashing}
 use Rattle.readers.proofs.Rules.{clash-mutual}
 use Rattle.readers.proofs.Contents.{tested-by}
 
 pub books-settled : BooksSettled
-unfolding readBy
-books-settled terms book day reads =
-    go (ruleTests (terms .profile) (day .rows)) refl
-    (pairs-settled (clashBy (terms .profile)) (clash-mutual (terms .profile)) (numberBy (terms .profile)) (day .rows))
+unfolding readFor
+books-settled profile book day reads =
+    go (ruleTests profile (day .rows)) refl
+    (pairs-settled (clashBy profile) (clash-mutual profile) (numberBy profile) (day .rows))
   where
-    gives : (o : Tested) → ruleTests (terms .profile) (day .rows) ≡ o → readBy terms book ≡ refusedOr o (accepted day)
-    gives = tested-by (ruleTests (terms .profile)) (readWords book) day reads
+    gives : (o : Tested) → ruleTests profile (day .rows) ≡ o → readFor profile book ≡ refusedOr o (accepted day)
+    gives = tested-by (ruleTests profile) (readWords book) day reads
 
-    go : (o : Tested) → ruleTests (terms .profile) (day .rows) ≡ o →
-        PairsSettled (clashBy (terms .profile)) (numberBy (terms .profile)) (day .rows) o → Settled terms book day
+    go : (o : Tested) → ruleTests profile (day .rows) ≡ o →
+        PairsSettled (clashBy profile) (numberBy profile) (day .rows) o → Settled profile book day
     go Passed e (pairs.unclashing h) = unclashing h (gives Passed e)
-    go (Refused _ _) e (pairs.clashing j k h) = clashing j k h (gives (Refused (numberBy (terms .profile)) (numberWord k)) e)
+    go (Refused _ _) e (pairs.clashing j k h) = clashing j k h (gives (Refused (numberBy profile) (numberWord k)) e)

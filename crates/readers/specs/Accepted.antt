@@ -1,5 +1,5 @@
--- What is known of an accepted day: its rows keep the rule of the profile as planning sees them, and every number is in its range. The proof
--- is `accepted-day`, in proofs/Accepted.antt. Rests on: Reads, the schedule's rows and profiles.
+-- What is known of an accepted day: its rows keep the rule of the profile as planning sees them, and every number is in its range. The
+-- proof is `accepted-day`, in proofs/Accepted.antt. Rests on: Reads, the schedule's rows and profiles.
 use Prim.Native.Nat.{ℕ, _≤_, _<_}
 use mathlib.Core.Path.{_≡_}
 use mathlib.Core.List.{List, List·Memᴰ}

@@ -10,7 +10,7 @@ ghost use Rattle.refusals.specs.declared.Tested.the-variants.{Refused};
 ghost use Rattle.rows.specs.InColumns.{Within};
 ghost use Rattle.readers.specs.Rules.{numberBy};
 ghost use Rattle.readers.specs.Seconds.{secondBy, JobsTested};
-ghost use Rattle.readers.specs.Reads.{orderingRule, firstCome, withoutOpening, readBy, Gives};
+ghost use Rattle.readers.specs.Reads.{readBy, Gives};
 use refusals::Tested;
 use rows::Columns;
 use schedule::Desk;
@@ -23,38 +23,6 @@ const MOST_READY: u32 = 10_030_030;
 pub struct Terms {
     pub profile: Profile,
     pub opening: u32,
-}
-
-impl Terms {
-    // To plan by the ordering rule.
-    pub fn ordering_rule(opening: u32) -> Terms
-        ensures { λ r. ⌜ r ≡ orderingRule opening ⌝ }
-    {
-        Terms {
-            profile: Profile::Ordering,
-            opening: opening,
-        }
-    }
-
-    // To plan first come, first due.
-    pub fn first_come(opening: u32) -> Terms
-        ensures { λ r. ⌜ r ≡ firstCome opening ⌝ }
-    {
-        Terms {
-            profile: Profile::FirstCome,
-            opening: opening,
-        }
-    }
-
-    // To work out no ends.
-    pub fn without_opening(profile: Profile) -> Terms
-        ensures { λ r. ⌜ r ≡ withoutOpening profile ⌝ }
-    {
-        Terms {
-            profile: profile,
-            opening: 0,
-        }
-    }
 }
 
 // What a book gives by the terms: how the tests came out; of an accepted book also the free minute, the count of rows, and in columns what

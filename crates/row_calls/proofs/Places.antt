@@ -8,6 +8,7 @@ use mathlib.Core.List.{List, []}
 use lib.Dec.{ltb, eqb}
 use lib.ListN.{length, take, drop}
 use borrow.Author.Tests.{ltb-false, eqb-false}
+use Rattle.schedule.specs.declared.Profile.{Profile}
 use Rattle.schedule.specs.Rows.{Day}
 use Rattle.schedule.proofs.Tests.{neither}
 use Rattle.refusals.specs.declared.Tested.the-variants as tested
@@ -16,8 +17,7 @@ use Rattle.refusals.proofs.Tests.{never}
 use Rattle.pairs.specs.Pairs.{numberWord}
 use Rattle.book.specs.Rows.{Contents, refused, accepted}
 use Rattle.book.proofs.Whole.{whole-words}
-use Rattle.readers.specs.declared.Terms.{Terms}
-use Rattle.readers.specs.Reads.{readBy, outcomeOf}
+use Rattle.readers.specs.Reads.{withoutOpening, readBy, outcomeOf}
 use Rattle.readers.proofs.Accepted.{read-words-gave}
 use Rattle.row_calls.specs.declared.RowPlace.{RowPlace}
 use Rattle.row_calls.specs.declared.RowPlace.the-variants.{At, Refused}
@@ -52,9 +52,9 @@ module _ (x : Contents) (count : ℕ) (counts : (day : Day) → x ≡ accepted d
       go (accepted day) e h = let n = h day refl in rw (← n, f)
 
 -- A row that is found: its four words stand in the book.
-pub inside : (terms : Terms) (book : List ℕ) (k : ℕ) (x : RowPlace) → x ≡ placeCall terms book k → WordsInside x book
+pub inside : (profile : Profile) (book : List ℕ) (k : ℕ) (x : RowPlace) → x ≡ placeCall profile book k → WordsInside x book
 unfolding placeIn
-inside terms book k x g a h = go (readBy terms book) refl (sym h ∙ g)
+inside profile book k x g a h = go (readBy (withoutOpening profile) book) refl (sym h ∙ g)
   where
     listed : (count : ℕ) (b : Bool) → (eqb k 0 || ltb count k) ≡ b → length book ≡ 4 * count + 3 →
         At a ≡ cond b (Refused byUnlisted count) (At (numberWord k)) → a + 4 ≤ length book
@@ -65,11 +65,11 @@ inside terms book k x g a h = go (readBy terms book) refl (sym h ∙ g)
         let p : a ≡ numberWord k = cc in
         omega arith
 
-    go : (y : Contents) → readBy terms book ≡ y → At a ≡ placeIn y k → a + 4 ≤ length book
+    go : (y : Contents) → readBy (withoutOpening profile) book ≡ y → At a ≡ placeIn y k → a + 4 ≤ length book
     go (refused n p) r e = never (cc)
     go (accepted day) r e =
         listed (length (day .rows)) (eqb k 0 || ltb (length (day .rows)) k) refl
-        (whole-words book day (read-words-gave terms book day r) .words) e
+        (whole-words book day (read-words-gave (withoutOpening profile) book day r) .words) e
 
 -- The words at a place, and at none.
 pub words-found : (book : List ℕ) (x : RowPlace) (a : ℕ) → x ≡ At a → take 4 (drop a book) ≡ rowWordsAt x book

@@ -31,11 +31,15 @@ fn place_among(outcome: Tested, count: usize, row: u32) -> RowPlace
     RowPlace::At(place)
 }
 
-// The place of a row's number word, rows counted from 1, or the refusal.
+// The place of a row's number word, rows counted from 1, or the refusal. It works out no ends, and is told no opening.
 pub fn row_place(profile: Profile, book: &[u32], row: u32) -> RowPlace
     ensures { λ r. ⌜ r ≡ placeCall profile (now (book .entry)) row ⌝ }
 {
-    let given = readers::read(Terms::without_opening(profile), book);
+    let terms = Terms {
+        profile: profile,
+        opening: 0,
+    };
+    let given = readers::read(terms, book);
     let outcome = given.outcome;
     place_among(outcome, given.count, row)
 }

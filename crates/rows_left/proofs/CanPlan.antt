@@ -11,7 +11,7 @@ use lib.ListN.{length, length-map}
 use lib.Seq.{ext-getD}
 use borrow.Author.Tests.{le-leb}
 use Rattle.theory.specs.Jobs.{Job}
-use Rattle.schedule.specs.Limits.{longestLength, latestDeskEnd}
+use Rattle.schedule.specs.Limits.{longestTime, latestEnd}
 use Rattle.schedule.specs.declared.Profile.the-variants.{Ordering}
 use Rattle.schedule.specs.Rows.{job, allRows}
 use Rattle.schedule.specs.Cover.{Agreeing}
@@ -78,18 +78,18 @@ module _ (d : Running) where
       (subst (Agree (jobIn (d .rows) (leftRow k))) (sym (same l)) (a (leftRow k) (leftRow l) p q))
 
   pub can-plan-says : (canPlan d ≡ true) ↔
-      ((d .minute + longestLength * length (d .left) ≤ latestDeskEnd) × Agreeing (jobIn (d .rows)) (d .left))
+      ((d .minute + longestTime * length (d .left) ≤ latestEnd) × Agreeing (jobIn (d .rows)) (d .left))
   unfolding canPlan
   can-plan-says = (
-    λ e. let t = parts (leb (d .minute + longestLength * length (plainLeft d)) latestDeskEnd)
+    λ e. let t = parts (leb (d .minute + longestTime * length (plainLeft d)) latestEnd)
         (hasPassed (ruleTests Ordering (plainLeft d))) (is-true _ e) in
-        let room = leb→le (d .minute + longestLength * length (plainLeft d)) latestDeskEnd (t .0) in
+        let room = leb→le (d .minute + longestTime * length (plainLeft d)) latestEnd (t .0) in
         let none = passed-none (clash-mutual Ordering) (numberBy Ordering) (plainLeft d) (has-passed _ (t .1)) in
         (omega (arith, room, plain-size), left-agree (obeys Ordering (plainLeft d) none)),
     λ h. let passes : ruleTests Ordering (plainLeft d) ≡ Passed =
         none-passes (clash-mutual Ordering) (numberBy Ordering) (plainLeft d)
         (none-clashes Ordering (plainLeft d) (plain-agree (h .1))) in
-        rw (le-leb (d .minute + longestLength * length (plainLeft d)) latestDeskEnd (omega (arith, h .0, plain-size)), passes),
+        rw (le-leb (d .minute + longestTime * length (plainLeft d)) latestEnd (omega (arith, h .0, plain-size)), passes),
   )
 
 -- Words hold a desk whose rows left can be planned exactly if they hold a desk, and its rows left can.

@@ -7,7 +7,7 @@ use mathlib.Core.Path.{_≡_, sym, ap, _∙_}
 use mathlib.Core.List.{List, map, List·Memᴰ}
 use lib.ListN.{length, getD, length-map, List·getD-map}
 use lib.Seq.{ext-getD}
-use Rattle.schedule.specs.Limits.{mostRows, rowPlaces, latestMinute, longestLength, latestDue}
+use Rattle.schedule.specs.Limits.{mostRows, rowPlaces, latestMinute, longestTime, latestDue}
 use Rattle.schedule.specs.Rows.{jobOf, job, countFrom}
 use Rattle.schedule.specs.Columns.{at, columns}
 use Rattle.schedule.specs.Filled.{Filled, from}
@@ -18,7 +18,7 @@ use Rattle.schedule.proofs.RankPicks.{Renumbers}
 use Rattle.schedule.proofs.Filling.{counted-from-one}
 use Rattle.rows.specs.InColumns.{jobsOf, Within}
 use Rattle.running.specs.Running.{Running, jobIn}
-use Rattle.running.specs.Words.{countIn, minuteIn, releases, lengths, dues, rowsIn, leftTo, running, IsDesk}
+use Rattle.running.specs.Words.{countIn, minuteIn, releases, times, dues, rowsIn, leftTo, running, IsDesk}
 use Rattle.running.proofs.Fits.{counted-at, row-held}
 use Rattle.rows_left.specs.declared.Left.{Left}
 use Rattle.rows_left.specs.Left.{plainLeft, plainRow, canPlan}
@@ -36,11 +36,11 @@ few-left {ws} desk counted = omega (arith, desk .count, left-rising ws (countIn 
 -- The ranges of what the rows left have.
 pub left-ranged : {ws : List ℕ} → IsDesk ws → (i : ℕ) → List·Memᴰ i (leftTo ws (countIn ws)) →
     (jobIn (rowsIn ws) i .release ≤ latestMinute) × (1 ≤ jobIn (rowsIn ws) i .length) ×
-    (jobIn (rowsIn ws) i .length ≤ longestLength) × (jobIn (rowsIn ws) i .due ≤ latestDue)
+    (jobIn (rowsIn ws) i .length ≤ longestTime) × (jobIn (rowsIn ws) i .due ≤ latestDue)
 left-ranged {ws} desk i m =
     let r = left-mem ws (countIn ws) m in
     let d = desk .rows i (r .0) (r .1) in
-    rw (row-held ws i (r .0) (r .1)) (d .0, d .1, d .2, d .3)
+    rw (row-held ws i (r .0) (r .1)) (d .0, omega (arith, d .1), omega (arith, d .2, desk .opening), d .3)
 
 module _ (ws : List ℕ) {n : ℕ} {rows : List ℕ} (counted : n ≡ length (leftTo ws (countIn ws)))
     (numbered : Filled rowPlaces (from 1) (leftAt ws) n rows) where
@@ -58,11 +58,11 @@ module _ (ws : List ℕ) {n : ℕ} {rows : List ℕ} (counted : n ≡ length (le
     column-within before bound h f = f .within bound (λ k g. let r = row-range k g in h (at rows (k + 1)) (r .0) (r .1))
 
     pub columns-within : {release minutes due : List ℕ} → Filled rowPlaces (from 1) (wordLeft ws releases rows) n release →
-        Filled rowPlaces (from 1) (wordLeft ws lengths rows) n minutes → Filled rowPlaces (from 1) (wordLeft ws dues rows) n due →
-        (k : ℕ) → Within latestMinute longestLength latestDue (columns release minutes due k)
+        Filled rowPlaces (from 1) (wordLeft ws times rows) n minutes → Filled rowPlaces (from 1) (wordLeft ws dues rows) n due →
+        (k : ℕ) → Within latestMinute longestTime latestDue (columns release minutes due k)
     columns-within f g h k = (
       column-within releases latestMinute (λ i l m. desk .rows i l m .0) f k,
-      column-within lengths longestLength (λ i l m. desk .rows i l m .2) g k,
+      column-within times longestTime (λ i l m. omega (arith, desk .rows i l m .2, desk .opening)) g k,
       column-within dues latestDue (λ i l m. desk .rows i l m .3) h k,
     )
 

@@ -11,13 +11,13 @@ use mathlib.Core.Logic.{_↔_, _⊎_, inl, inr}
 use lib.Dec.{T, leb, eqb, leb→le, le→leb}
 use lib.ListN.{length, getD, length-map}
 use borrow.Author.Tests.{eqb-true}
-use Rattle.schedule.specs.Limits.{mostRows, latestMinute, longestLength, latestDue, latestStand}
+use Rattle.schedule.specs.Limits.{mostRows, latestMinute, longestLength, latestDue, mostOpening, latestStand}
 use Rattle.schedule.specs.Rows.{countFrom}
 use Rattle.schedule.specs.Columns.{at}
 use Rattle.schedule.proofs.Numbers.{length-count}
 use Rattle.schedule.proofs.Tests.{both, parts, or-cases, or-left, or-right, is-true, true-is}
 use Rattle.running.specs.Running.{between, noJob, jobIn}
-use Rattle.running.specs.Words.{deskWords, countIn, minuteIn, worstIn, releases, lengths, dues, marks, jobAt, rowsIn}
+use Rattle.running.specs.Words.{deskWords, countIn, minuteIn, worstIn, openingIn, releases, times, dues, marks, jobAt, rowsIn}
 use Rattle.running.specs.Words.{columnFits, rowsFit, headFits, isDesk, IsDesk, leastRaised, mostRaised}
 
 is-zero : (n : ℕ) → T (eqb n 0) → n ≡ 0
@@ -68,16 +68,23 @@ module _ (ws : List ℕ) where
   abbrev n : ℕ
   n = countIn ws
 
+  -- The least and the most time of a row.
+  abbrev short : ℕ
+  short = openingIn ws + 1
+
+  abbrev long : ℕ
+  long = openingIn ws + longestLength
+
   -- The tests of the rows and of the head.
   rows-say : T (rowsFit ws n) → (i : ℕ) → 1 ≤ i → i ≤ n →
-      (at ws (releases + i) ≤ latestMinute) × (1 ≤ at ws (lengths + i)) × (at ws (lengths + i) ≤ longestLength) ×
+      (at ws (releases + i) ≤ latestMinute) × (short ≤ at ws (times + i)) × (at ws (times + i) ≤ long) ×
       (at ws (dues + i) ≤ latestDue) × (at ws (marks + i) ≤ 1)
   unfolding rowsFit
   rows-say t i h g =
       let a = parts (columnFits releases 0 latestMinute ws n) _ t in
-      let b = parts (columnFits lengths 1 longestLength ws n) _ (a .1) in
+      let b = parts (columnFits times short long ws n) _ (a .1) in
       let c = parts (columnFits dues 0 latestDue ws n) _ (b .1) in
-      let l = fitting lengths 1 longestLength ws n (b .0) i h g in (
+      let l = fitting times short long ws n (b .0) i h g in (
         fitting releases 0 latestMinute ws n (a .0) i h g .1,
         l .0,
         l .1,
@@ -90,8 +97,8 @@ module _ (ws : List ℕ) where
   say-rows d =
       both (columnFits releases 0 latestMinute ws n) _
       (fits-all releases 0 latestMinute ws n (λ i h g. (omega arith, d .rows i h g .0)))
-      (both (columnFits lengths 1 longestLength ws n) _
-      (fits-all lengths 1 longestLength ws n (λ i h g. (d .rows i h g .1, d .rows i h g .2)))
+      (both (columnFits times short long ws n) _
+      (fits-all times short long ws n (λ i h g. (d .rows i h g .1, d .rows i h g .2)))
       (both (columnFits dues 0 latestDue ws n) _
       (fits-all dues 0 latestDue ws n (λ i h g. (omega arith, d .rows i h g .3)))
       (fits-all marks 0 1 ws n (λ i h g. (omega arith, d .rows i h g .4)))))
@@ -113,11 +120,13 @@ module _ (ws : List ℕ) where
       let b = parts (headFits ws) (rowsFit ws n) (a .1) in
       let c = parts (between 1 mostRows n) _ (b .0) in
       let m = parts (leb (minuteIn ws) latestStand) _ (c .1) in
+      let o = parts (leb (openingIn ws) mostOpening) _ (m .1) in
       record {
         long = leb→le deskWords (length ws) (a .0);
         count = lies 1 mostRows n (c .0);
         early = leb→le (minuteIn ws) latestStand (m .0);
-        worst = worst-says (or-cases (eqb (worstIn ws) 0) _ (m .1));
+        opening = leb→le (openingIn ws) mostOpening (o .0);
+        worst = worst-says (or-cases (eqb (worstIn ws) 0) _ (o .1));
         rows = rows-say (b .1);
       }
 
@@ -128,17 +137,21 @@ module _ (ws : List ℕ) where
       (both (leb deskWords (length ws)) _ (le→leb deskWords (length ws) (d .long))
       (both (headFits ws) (rowsFit ws n)
       (both (between 1 mostRows n) _ (between-two 1 mostRows n (d .count))
-      (both (leb (minuteIn ws) latestStand) _ (le→leb (minuteIn ws) latestStand (d .early)) (says-worst (d .worst))))
+      (both (leb (minuteIn ws) latestStand) _ (le→leb (minuteIn ws) latestStand (d .early))
+      (both (leb (openingIn ws) mostOpening) _ (le→leb (openingIn ws) mostOpening (d .opening)) (says-worst (d .worst)))))
       (say-rows d)))
 
   -- The test of a desk says what the statement does.
   pub desk-says : (isDesk ws ≡ true) ↔ IsDesk ws
   desk-says = (says-desk, desk-says-so)
 
--- A head that fits counts no more than the most rows.
-pub few-rows : (ws : List ℕ) → headFits ws ≡ true → countIn ws ≤ mostRows
+-- A head that fits counts no more than the most rows, and its opening is no more than the most.
+pub head-says : (ws : List ℕ) → headFits ws ≡ true → (countIn ws ≤ mostRows) × (openingIn ws ≤ mostOpening)
 unfolding headFits
-few-rows ws e = lies 1 mostRows (countIn ws) (parts (between 1 mostRows (countIn ws)) _ (is-true _ e) .0) .1
+head-says ws e =
+    let c = parts (between 1 mostRows (countIn ws)) _ (is-true _ e) in
+    let m = parts (leb (minuteIn ws) latestStand) _ (c .1) in
+    (lies 1 mostRows (countIn ws) (c .0) .1, leb→le (openingIn ws) mostOpening (parts (leb (openingIn ws) mostOpening) _ (m .1) .0))
 
 -- The rows that the words hold, by their numbers.
 pub counted-at : {A : Type 0} (f : ℕ → A) (none : A) (k n i : ℕ) → i < n → getD (map f (countFrom k n)) i none ≡ f (k + i)

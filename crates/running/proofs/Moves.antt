@@ -12,7 +12,7 @@ use lib.Seq.{getD-set-same, getD-set-other}
 use lib.IntN.{subℕ}
 use borrow.Author.Tests.{eqb-true}
 use Rattle.theory.specs.Jobs.{Job}
-use Rattle.schedule.specs.Limits.{mostRows, longestLength, latestDue, latestStart}
+use Rattle.schedule.specs.Limits.{mostRows, longestTime, latestDue, latestStart}
 use Rattle.schedule.specs.Rows.{countFrom, without}
 use Rattle.schedule.specs.Columns.{at}
 use Rattle.schedule.specs.Offset.{raised, lowered}
@@ -22,7 +22,7 @@ use Rattle.schedule.proofs.Raised.{late-lowered, max-lowered}
 use Rattle.schedule.proofs.SignedWords.{raised-lowered}
 use Rattle.refusals.specs.declared.Tested.the-variants.{Passed}
 use Rattle.running.specs.Running.{Running, jobIn, startTests, worse, endAt, worstAt, moved}
-use Rattle.running.specs.Words.{deskWords, countIn, worstIn, releases, lengths, dues, marks, jobAt, rowsIn, leftTo, worstHeld}
+use Rattle.running.specs.Words.{deskWords, countIn, worstIn, releases, times, dues, marks, jobAt, rowsIn, leftTo, worstHeld}
 use Rattle.running.specs.Words.{running, IsDesk, leastRaised, mostRaised, movedWords}
 use Rattle.running.proofs.Fits.{row-held, rows-length}
 use Rattle.running.proofs.Left.{left-stands, left-without}
@@ -51,15 +51,15 @@ module _ (ws : List ℕ) (i end worst : ℕ) where
 -- The ranges of the numbers of a start.
 abbrev pub StartFits : List ℕ → ℕ → ℕ → Type 0
 StartFits ws i m =
-    (deskWords ≤ length ws) × (i ≤ mostRows) × (m ≤ latestStart) × (1 ≤ at ws (lengths + i)) × (at ws (lengths + i) ≤ longestLength) ×
+    (deskWords ≤ length ws) × (i ≤ mostRows) × (m ≤ latestStart) × (1 ≤ at ws (times + i)) × (at ws (times + i) ≤ longestTime) ×
     (at ws (dues + i) ≤ latestDue) × (at ws (releases + i) ≤ m)
 
 module _ (ws : List ℕ) (desk : IsDesk ws) (i m : ℕ) (passed : startTests (running ws) i m ≡ Passed) where
   abbrev d : Running
   d = running ws
 
-  abbrev minutes : ℕ
-  minutes = at ws (lengths + i)
+  abbrev time : ℕ
+  time = at ws (times + i)
 
   abbrev due : ℕ
   due = at ws (dues + i)
@@ -83,20 +83,27 @@ module _ (ws : List ℕ) (desk : IsDesk ws) (i m : ℕ) (passed : startTests (ru
   pub start-fits : StartFits ws i m
   start-fits =
       let r = desk .rows i low high in
-      let released = ap (λ (j : Job). j .release) job-held in
-      (desk .long, omega (arith, high, desk .count), may .early, r .1, r .2, r .3, omega (arith, released, may .released))
+      let released = ap (λ (j : Job). j .release) job-held in (
+        desk .long,
+        omega (arith, high, desk .count),
+        may .early,
+        omega (arith, r .1),
+        omega (arith, r .2, desk .opening),
+        r .3,
+        omega (arith, released, may .released),
+      )
 
   -- The end and the worst lateness, in words.
-  pub end-held : m + minutes ≡ endAt d i m
+  pub end-held : m + time ≡ endAt d i m
   end-held = ap (λ (j : Job). m + j .length) (sym job-held)
 
   abbrev worst : ℕ
-  worst = max (worstIn ws) (m + minutes + 2147483648 - due)
+  worst = max (worstIn ws) (m + time + 2147483648 - due)
 
   pub worst-held : lowered worst ≡ worstAt d i m
   worst-held =
-      sym (worse-word (worstIn ws) (m + minutes + 2147483648 - due)) ∙
-      (ap (worse (worstHeld (worstIn ws))) (late-lowered (m + minutes) due (omega (arith, start-fits))) ∙
+      sym (worse-word (worstIn ws) (m + time + 2147483648 - due)) ∙
+      (ap (worse (worstHeld (worstIn ws))) (late-lowered (m + time) due (omega (arith, start-fits))) ∙
       ap (λ (j : Job). worse (worstHeld (worstIn ws)) (subℕ (m + j .length) (j .due))) (sym job-held))
 
   pub worst-raised : worst ≡ raised (worstAt d i m)
@@ -147,10 +154,13 @@ module _ (ws : List ℕ) (desk : IsDesk ws) (i m : ℕ) (passed : startTests (ru
   column-new : (p : ℕ) → 3 ≤ p → p ≤ marks → at new p ≡ at ws p
   column-new p a b = moved-other ws i end w p (λ e. omega arith) (λ e. omega arith) (λ e. omega (arith, low))
 
+  opening-new : at new 3 ≡ at ws 3
+  opening-new = column-new 3 (omega arith) (omega arith)
+
   job-new : (k : ℕ) → k ≤ mostRows → jobAt new k ≡ jobAt ws k
   job-new k h = λ x. record {
     release = column-new (releases + k) (omega arith) (omega arith) x;
-    length = column-new (lengths + k) (omega arith) (omega arith) x;
+    length = column-new (times + k) (omega arith) (omega arith) x;
     due = column-new (dues + k) (omega arith) (omega arith) x;
   }
 
@@ -173,20 +183,21 @@ module _ (ws : List ℕ) (desk : IsDesk ws) (i m : ℕ) (passed : startTests (ru
     long = omega (arith, desk .long, moved-length ws i end w);
     count = omega (arith, desk .count, count-new);
     early = omega (arith, minute-new, end-held, start-fits);
+    opening = omega (arith, desk .opening, opening-new);
     worst = inr (omega (arith, worst-new, worst-raised, worst-fits (desk .worst)));
     rows = λ k l h.
         let r = desk .rows k l (omega (arith, count-new)) in
         let few : k ≤ mostRows = omega (arith, count-new, desk .count) in
         let release = column-new (releases + k) (omega arith) (omega arith) in
-        let minutes = column-new (lengths + k) (omega arith) (omega arith) in
+        let time = column-new (times + k) (omega arith) (omega arith) in
         let due = column-new (dues + k) (omega arith) (omega arith) in
-        omega (arith, r, release, minutes, due, marks-fit k (r .4));
+        omega (arith, r, release, time, due, opening-new, marks-fit k (r .4));
   }
 
   -- The words hold a desk again, the one after the start, and are as many as before.
   pub moved-held : IsDesk new × (running new ≡ moved d i m) × (length new ≡ length ws)
   moved-held = (
     new-desk,
-    λ x. record { rows = rows-new x; left = left-new x; minute = minute-new x; worst = worst-some x },
+    λ x. record { opening = opening-new x; rows = rows-new x; left = left-new x; minute = minute-new x; worst = worst-some x },
     moved-length ws i end w,
   )

@@ -34,13 +34,13 @@ use Rattle.calls.specs.Lines.{Line, listing, numbersOf, lineOf, printed}
 use Rattle.calls.proofs.CallLaws.{bound-of}
 use Rattle.promises.proofs.Listed.{nth-mem}
 use Rattle.promises.proofs.Promise.{day-sound}
-use Rattle.readers.specs.Reads.{orderingRule}
+use Rattle.sheet.specs.Printing.{slateTerms}
 use Rattle.schedule.specs.Profiles.{plansBy}
 use Rattle.schedule.proofs.Numbers.{length-count}
 use Rattle.schedule.proofs.Orders.{perm-count}
 use Rattle.lines.specs.LineBytes.{rowsLine}
 use Rattle.sheet.specs.Shown.{planLines, bytesOf}
-use Rattle.sheet.specs.Parts.{planned, linesOf, lineFor, Listed}
+use Rattle.sheet.specs.Parts.{listedLines, linesOf, lineFor, Listed}
 use Rattle.sheet.proofs.Naming.{Numbers}
 
 -- The number that a word in two's complement stands for.
@@ -103,11 +103,11 @@ abbrev pub dayIn : Table → Day
 dayIn t = record { free = t .free; rows = tableRows t }
 
 abbrev pub plansOf : Table → List Pair
-plansOf t = planningOf Ordering (dayIn t) .plans
+plansOf t = planningOf Ordering 0 (dayIn t) .plans
 
 -- The book is accepted, the table has its rows, and the buffer its plans.
 pub record Heard (book : List ℕ) (t : Table) (count : ℕ) (plans : List ℕ) : Type 0 where
-  pub read : readBy orderingRule book ≡ accepted (dayIn t)
+  pub read : readBy slateTerms book ≡ accepted (dayIn t)
   pub few : t .count ≤ mostRows
   pub fits : count ≤ mostRows
   pub rows : length (tableRows t) ≡ t .count
@@ -116,18 +116,18 @@ pub record Heard (book : List ℕ) (t : Table) (count : ℕ) (plans : List ℕ) 
   pub listed : plansIn count plans ≡ plansOf t
 
 module _ (book : List ℕ) (t : Table) (count : ℕ) (plans : List ℕ) (h : Heard book t count plans) where
-  pub printed-is : printed orderingRule book ≡ listing (t .count) (map (lineOf orderingRule (dayIn t)) (plansOf t))
+  pub printed-is : printed slateTerms book ≡ listing (t .count) (map (lineOf slateTerms (dayIn t)) (plansOf t))
   unfolding printed
   printed-is = rw (printed, h .read, h .rows) refl
 
-  lines-are : linesOf book ≡ map (lineOf orderingRule (dayIn t)) (plansOf t)
-  lines-are = ap planned printed-is
+  lines-are : linesOf book ≡ map (lineOf slateTerms (dayIn t)) (plansOf t)
+  lines-are = ap listedLines printed-is
 
   lines-counted : length (linesOf book) ≡ count
-  lines-counted = ap length lines-are ∙ (length-map (plansOf t) (lineOf orderingRule (dayIn t)) ∙ h .counted)
+  lines-counted = ap length lines-are ∙ (length-map (plansOf t) (lineOf slateTerms (dayIn t)) ∙ h .counted)
 
   -- The lines that are shown.
-  pub listing-shown : bytesOf (printed orderingRule book) ≡ rowsLine (t .count) count ++ planLines 1 (linesOf book)
+  pub listing-shown : bytesOf (printed slateTerms book) ≡ rowsLine (t .count) count ++ planLines 1 (linesOf book)
   unfolding bytesOf
   listing-shown = rw (lines-are, ← lines-counted, lines-are, printed-is) refl
 
@@ -136,17 +136,17 @@ module _ (book : List ℕ) (t : Table) (count : ℕ) (plans : List ℕ) (h : Hea
   plan-at k l = ap (λ (ps : List Pair). nth ps (suc k)) (sym (h .listed)) ∙ plan-in count k plans l (omega (arith, h .size, h .fits))
 
   there : (k : ℕ) → k < count →
-      (order : List ℕ) × (planningOf Ordering (dayIn t) .orders (pairIn plans k .late) ≡ some order) × (length order ≡ t .count)
+      (order : List ℕ) × (planningOf Ordering 0 (dayIn t) .orders (pairIn plans k .late) ≡ some order) × (length order ≡ t .count)
   unfolding plansBy
   there k l =
-      let s = day-sound (accepted-day orderingRule book (dayIn t) (h .read)) in
+      let s = day-sound (accepted-day slateTerms book (dayIn t) (h .read)) in
       let u = s .promise .attains (pairIn plans k) (nth-mem (plansOf t) (suc k) (pairIn plans k) (plan-at k l)) in
       (u .0, u .1, perm-count (u .2 .0) .0 ∙ (length-count 1 (length (tableRows t)) ∙ h .rows))
 
-  line-at : (k : ℕ) → k < count → nth (linesOf book) (suc k) ≡ some (lineOf orderingRule (dayIn t) (pairIn plans k))
+  line-at : (k : ℕ) → k < count → nth (linesOf book) (suc k) ≡ some (lineOf slateTerms (dayIn t) (pairIn plans k))
   line-at k l =
       ap (λ (ls : List Line). nth ls (suc k)) lines-are ∙
-      nth-map (lineOf orderingRule (dayIn t)) (plansOf t) (suc k) (pairIn plans k) (plan-at k l)
+      nth-map (lineOf slateTerms (dayIn t)) (plansOf t) (suc k) (pairIn plans k) (plan-at k l)
 
   module _ (numbers : List ℕ) (n : Numbers numbers (tableRows t)) where
     -- The line of plan k + 1, from the order that the call for its bound writes, with the order numbers in the places of the rows.
@@ -158,12 +158,12 @@ module _ (book : List ℕ) (t : Table) (count : ℕ) (plans : List ℕ) (h : Hea
         let y = pairIn plans k .late in
         let b : List ℕ = replicate (t .count) 0 in
         let f : length b ≡ t .count = length-replicate {A = ℕ} (t .count) 0 in
-        let held : boundCall orderingRule book y b .buffer ≡ o .0 =
+        let held : boundCall slateTerms book y b .buffer ≡ o .0 =
         ap (λ (x : Outcome OrderAnswer). x .buffer)
-        (bound-of orderingRule book (dayIn t) (h .read) y b ∙
-        order-some (planningOf Ordering (dayIn t)) y b (omega (arith, f, h .rows, length-count 1 (length (tableRows t)))) (o .0) (o .1)) ∙
+        (bound-of slateTerms book (dayIn t) (h .read) y b ∙
+        order-some (planningOf Ordering 0 (dayIn t)) y b (omega (arith, f, h .rows, length-count 1 (length (tableRows t)))) (o .0) (o .1)) ∙
         written-whole (o .0) b (o .2 ∙ sym f) in
-        let named : map (λ i. row (tableRows t) i .number) (o .0) ≡ map (λ i. getD numbers i 0) (boundCall orderingRule book y b .buffer) =
+        let named : map (λ i. row (tableRows t) i .number) (o .0) ≡ map (λ i. getD numbers i 0) (boundCall slateTerms book y b .buffer) =
         sym (ap (map (λ i. getD numbers i 0)) held ∙ ap (λ (g : ℕ → ℕ). map g (o .0)) (λ j i. n .1 i j)) in
         line-at k l ∙
         ap (λ (ns : List ℕ). some (record { end = getD plans (2 * k) 0; late = signed (getD plans (2 * k + 1) 0); numbers = ns }))

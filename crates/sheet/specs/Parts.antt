@@ -11,7 +11,7 @@ use Rattle.outcomes.specs.declared.ListAnswer.the-variants.{Plans}
 use Rattle.outcomes.specs.Planning.{gives, nth}
 use Rattle.calls.specs.Calls.{listCall, boundCall}
 use Rattle.calls.specs.Lines.{Line, Printed, refusal, listing, printed}
-use Rattle.readers.specs.Reads.{orderingRule}
+use Rattle.sheet.specs.Printing.{slateTerms}
 
 -- The bytes of a sheet.
 abbrev pub sheetBytes : ℕ
@@ -19,19 +19,19 @@ sheetBytes = 750000
 
 -- The call for the list answered so many plans, and wrote them into a buffer of 512 words.
 abbrev pub Answered : (book : List ℕ) (count : ℕ) (plans : List ℕ) → Type 0
-Answered book count plans = (b : List ℕ) × (length b ≡ 512) × (gives (Plans count) plans ≡ listCall orderingRule book b)
+Answered book count plans = (b : List ℕ) × (length b ≡ 512) × (gives (Plans count) plans ≡ listCall slateTerms book b)
 
 -- The lines of a book's plans.
-abbrev pub planned : Printed → List Line
-planned (refusal n p) = []
-planned (listing n ls) = ls
+abbrev pub listedLines : Printed → List Line
+listedLines (refusal n p) = []
+listedLines (listing n ls) = ls
 
 abbrev pub linesOf : List ℕ → List Line
-linesOf book = planned (printed orderingRule book)
+linesOf book = listedLines (printed slateTerms book)
 
 -- The order numbers of the order for a bound, which the call writes into a buffer of one word for each row.
 abbrev pub orderNumbers : (book numbers : List ℕ) (rows late : ℕ) → List ℕ
-orderNumbers book numbers rows late = map (λ i. getD numbers i 0) (boundCall orderingRule book (signed late) (replicate rows 0) .buffer)
+orderNumbers book numbers rows late = map (λ i. getD numbers i 0) (boundCall slateTerms book (signed late) (replicate rows 0) .buffer)
 
 abbrev pub lineFor : (book numbers : List ℕ) (rows end late : ℕ) → Line
 lineFor book numbers rows end late = record { end = end; late = signed late; numbers = orderNumbers book numbers rows late }

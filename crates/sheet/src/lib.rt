@@ -10,10 +10,10 @@ ghost use Rattle.book.specs.Tables.{tableRows};
 ghost use Rattle.results.specs.Results.{signed};
 ghost use Rattle.calls.specs.Calls.{boundCall};
 ghost use Rattle.calls.specs.Lines.{printed};
-ghost use Rattle.readers.specs.Reads.{orderingRule};
 ghost use Rattle.lines.specs.LineBytes.{planLine};
 ghost use Rattle.lines.specs.Added.{Added};
 ghost use Rattle.input.specs.Input.{wordsIn, Counted};
+ghost use Rattle.sheet.specs.Printing.{slateTerms};
 ghost use Rattle.sheet.specs.Shown.{planLines, bytesOf, shown};
 ghost use Rattle.sheet.specs.Parts.{sheetBytes, Answered, Listed, orderNumbers, linesOf};
 use book::Table;
@@ -77,9 +77,9 @@ fn order_numbers(book: &[u32], late: u32, numbers: &[u32; Desk::PLACES], order: 
     requires { ⌜ length (now numbers) ≡ rowPlaces ⌝ }
     ensures { λ _. ⌜ length (now (order .exit)) ≡ length (now (order .entry)) ⌝ }
     ensures { λ _. ⌜ now (order .exit) ≡ map (λ i. getD (now (numbers .entry)) i 0)
-        (boundCall orderingRule (now (book .entry)) (signed late) (now (order .entry)) .buffer) ⌝ }
+        (boundCall slateTerms (now (book .entry)) (signed late) (now (order .entry)) .buffer) ⌝ }
 {
-    planner::order_for_bound(book, signed_of(late), order);
+    planner::order_for_bound(0, book, signed_of(late), order);
     name_rows(numbers, order);
 }
 
@@ -145,7 +145,7 @@ fn put_plans(
 // The lines of a book that is listed: the line that counts, then those of the plans.
 fn put_listing(book: &[u32], count: usize, plans: &[u32; 512], sheet: &mut [u8]) -> usize
     requires { ⌜ (Answered (now book) count (now plans)) × (sheetBytes ≤ length (now sheet)) ⌝ }
-    ensures { λ r. ⌜ Counted r (now (sheet .exit)) (bytesOf (printed orderingRule (now (book .entry)))) ⌝ }
+    ensures { λ r. ⌜ Counted r (now (sheet .exit)) (bytesOf (printed slateTerms (now (book .entry)))) ⌝ }
 {
     let table = book::read_words(book).table;
     let rows = table.count;
@@ -163,7 +163,7 @@ fn put_lines(input: &[u8], book: &[u32], sheet: &mut [u8]) -> usize
         return lines::refused_line(sheet, 0, Tested::CUT, input.len() / 4);
     }
     let mut plans = no_plans();
-    match planner::list(book, &mut plans) {
+    match planner::list(0, book, &mut plans) {
         ListAnswer::Refused(number, place) => lines::refused_line(sheet, 0, number, place),
         ListAnswer::Plans(count) => put_listing(book, count, &plans, sheet),
     }

@@ -1,4 +1,4 @@
--- `open` meets its contract: the refusal of the book, then a run that is too short, then the words of the desk.
+-- `open` meets its contract: the refusal of the opening or the book, then a run that is too short, then the words of the desk.
 -- Assumes nothing.
 use mathlib.Core.Path.{sym}
 use borrow.Author.Needs.{needs}
@@ -19,7 +19,7 @@ returns c =
     let r = c .before .before .before .read in
     let a = c .before .before .before .before .before .before .args in
     let g = c .before .outcome .given in
-    sym (open-no (now (a .book)) (a .desk .now) (g .0 .0) (g .0 .1 .0)
+    sym (open-no (a .opening) (now (a .book)) (a .desk .now) (g .0 .0) (g .0 .1 .0)
     (given-refused _ (r .result) (g .0 .0) (g .0 .1 .0) (r .ensures) (g .1)))
 
 enum-told : tie.Need-enum-told
@@ -29,7 +29,7 @@ returns-2 : tie.Need-returns-2
 returns-2 c =
     let r = c .before .before .before .read in
     let a = c .before .before .before .before .before .before .args in
-    open-narrow (now (a .book)) (r .result) (r .ensures) (c .before .enum-told .given .1) (a .desk .now) (c .if1 .taken)
+    open-narrow (a .opening) (now (a .book)) (r .result) (r .ensures) (c .before .enum-told .given .1) (a .desk .now) (c .if1 .taken)
 
 put-day-requires : tie.Need-put-day-requires
 put-day-requires c κs =
@@ -37,7 +37,7 @@ put-day-requires c κs =
     let told = wide .before in
     let r = told .before .before .read in
     let a = told .before .before .before .before .before .args in
-    let sizes = given-sizes (now (a .book)) (r .result) (r .ensures) (told .enum-told .given .1) in
+    let sizes = given-sizes (a .opening) (now (a .book)) (r .result) (r .ensures) (told .enum-told .given .1) in
     (sizes .0, wide .if1 .left, sizes .1, sizes .2, sizes .3)
 
 same-length : tie.Need-same-length
@@ -49,7 +49,7 @@ returns-3 c =
     let told = wide .before in
     let r = told .before .before .read in
     let a = told .before .before .before .before .before .args in
-    open-done (now (a .book)) (r .result) (r .ensures) (told .enum-told .given .1) (a .desk .now) (wide .if1 .left) _
+    open-done (a .opening) (now (a .book)) (r .result) (r .ensures) (told .enum-told .given .1) (a .desk .now) (wide .if1 .left) _
     (c .before .before .put-day .ensures)
 
 pub open-spec : {M : Type 1} → statement M

@@ -30,8 +30,8 @@ returns c =
     let head = c .before .before .before .before .before .before .before .before .before .before .before .before .before .before in
     let s = head .before .before .before in
     let a = s .args in
-    λ rows count same. day-put (record { free = a .free; rows = rows }) (omega arith) (a .desk .now) (a .n) count (now (a .release))
-    (now (a .minutes)) (now (a .due)) (s .pre .2) (s .pre .3) (s .pre .4) same _ _ _ _ (head .put-head .ensures)
+    λ rows count same. day-put (a .opening) (record { free = a .free; rows = rows }) (omega arith) (a .desk .now) (a .n) count
+    (now (a .release)) (now (a .minutes)) (now (a .due)) (s .pre .2) (s .pre .3) (s .pre .4) same _ _ _ _ (head .put-head .ensures)
     (c .before .before .before .before .before .before .before .before .before .before .put-column .ensures)
     (c .before .before .before .before .before .before .put-column2 .ensures) (c .before .before .put-column3 .ensures)
 

@@ -13,10 +13,10 @@ use Rattle.desk_open.proofs.put_head.Statement.{statement}
 use Rattle.desk_open.proofs.put_head.Tie as tie
 
 abbrev Inv-loop : tie.InvT-loop
-Inv-loop desk₀ count minute k₀ desk k = (k ≤ deskWords) × (length desk ≡ length desk₀) × (desk ≡ written (replicate k 0) desk₀)
+Inv-loop desk₀ count minute opening k₀ desk k = (k ≤ deskWords) × (length desk ≡ length desk₀) × (desk ≡ written (replicate k 0) desk₀)
 
 abbrev μ-loop : tie.MeasureT-loop
-μ-loop desk₀ count minute k₀ desk k = deskWords - k
+μ-loop desk₀ count minute opening k₀ desk k = deskWords - k
 
 loop-holds : tie.Need-loop-holds Inv-loop μ-loop
 unfolding written
@@ -49,6 +49,9 @@ slice-write-desk-2 c = search needs
 slice-write-desk-3 : tie.Need-slice-write-desk-3 Inv-loop μ-loop
 slice-write-desk-3 c = simp length-set (omega arith)
 
+slice-write-desk-4 : tie.Need-slice-write-desk-4 Inv-loop μ-loop
+slice-write-desk-4 c = simp length-set (omega arith)
+
 same-length : tie.Need-same-length Inv-loop μ-loop
 same-length c = search needs
 
@@ -57,7 +60,7 @@ returns c =
     let l = c .before .loop in
     let a = c .before .before .args in
     let all : l .k ≡ deskWords = omega arith in
-    head-put (a .count) (a .minute) (a .desk .now) (l .desk)
+    head-put (a .count) (a .minute) (a .opening) (a .desk .now) (l .desk)
     (l .inv .2 ∙ ap (λ (n : ℕ). written (replicate n 0) (a .desk .now)) all)
 
 pub put-head-spec : {M : Type 1} → statement M
@@ -74,5 +77,6 @@ put-head-spec =
     loop-again
     slice-write-desk-2
     slice-write-desk-3
+    slice-write-desk-4
     same-length
     returns)

@@ -7,7 +7,7 @@ use mir.ValLaws.{toZ-ofZ}
 use mathlib.Core.Path.{ap, _∙_}
 use lib.IntN.{ℤ}
 use Rattle.calls.specs.Calls.{boundCall}
-use Rattle.first_come.specs.Promise.{firstCome}
+use Rattle.readers.specs.Reads.{firstCome}
 use Rattle.first_come.proofs.order_for_bound.Statement.{statement}
 use Rattle.first_come.proofs.order_for_bound.Tie as tie
 
@@ -21,7 +21,7 @@ returns : tie.Need-returns
 returns c =
     let s = c .before .before .before .before .before .before in
     let a = s .args in
-    c .before .before .order-for-bound .ensures ∙ ap (λ (y : ℤ). boundCall firstCome (now (a .book)) y (now (a .result)))
+    c .before .before .order-for-bound .ensures ∙ ap (λ (y : ℤ). boundCall (firstCome (a .opening)) (now (a .book)) y (now (a .result)))
     (toZ-ofZ w32 (a .bound) (s .fits .bound))
 
 pub order-for-bound-spec : {M : Type 1} → statement M

@@ -8,7 +8,7 @@ use mathlib.Core.Path.{ap, _∙_}
 use borrow.Author.Needs.{needs}
 use Rattle.calls.specs.Calls.{boundCall}
 use Rattle.calls.specs.Answers.{saidOrder}
-use Rattle.first_come.specs.Promise.{firstCome}
+use Rattle.readers.specs.Reads.{firstCome}
 use Rattle.jelvaksna.proofs.Through.{through}
 use Rattle.jelvaksna.proofs.jelvaksna_first_come_order_for_bound.Statement.{statement}
 use Rattle.jelvaksna.proofs.jelvaksna_first_come_order_for_bound.Tie as tie
@@ -28,7 +28,7 @@ returns c =
     let s = o .before .before .before .before in
     let a = s .args in
     through saidOrder _ _ _ (c .of-order .ensures)
-    (o .order-for-bound .ensures ∙ ap (λ (y : ℤ). boundCall firstCome (now (a .book)) y (now (a .result)))
+    (o .order-for-bound .ensures ∙ ap (λ (y : ℤ). boundCall (firstCome (a .opening)) (now (a .book)) y (now (a .result)))
     (toZ-ofZ w32 (a .bound) (s .fits .bound)))
 
 pub jelvaksna-first-come-order-for-bound-spec : {M : Type 1} → statement M

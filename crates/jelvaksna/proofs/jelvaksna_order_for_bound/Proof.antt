@@ -28,7 +28,7 @@ returns c =
     let s = o .before .before .before .before in
     let a = s .args in
     through saidOrder _ _ _ (c .of-order .ensures)
-    (o .order-for-bound .ensures ∙ ap (λ (y : ℤ). boundCall orderingRule (now (a .book)) y (now (a .result)))
+    (o .order-for-bound .ensures ∙ ap (λ (y : ℤ). boundCall (orderingRule (a .opening)) (now (a .book)) y (now (a .result)))
     (toZ-ofZ w32 (a .bound) (s .fits .bound)))
 
 pub jelvaksna-order-for-bound-spec : {M : Type 1} → statement M

@@ -21,7 +21,7 @@ returns : tie.Need-returns
 returns c =
     let s = c .before .before .before .before .before .before in
     let a = s .args in
-    c .before .before .order-for-bound .ensures ∙ ap (λ (y : ℤ). boundCall orderingRule (now (a .book)) y (now (a .result)))
+    c .before .before .order-for-bound .ensures ∙ ap (λ (y : ℤ). boundCall (orderingRule (a .opening)) (now (a .book)) y (now (a .result)))
     (toZ-ofZ w32 (a .bound) (s .fits .bound))
 
 pub order-for-bound-spec : {M : Type 1} → statement M

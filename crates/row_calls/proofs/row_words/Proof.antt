@@ -14,7 +14,7 @@ row-place-requires c κs = search needs
 
 words-at-requires : tie.Need-words-at-requires
 words-at-requires c κs =
-    let s = c .before .before .args in inside (s .terms) (now (s .book)) (s .row) (c .row-place .result) (c .row-place .ensures)
+    let s = c .before .before .args in inside (s .profile) (now (s .book)) (s .row) (c .row-place .result) (c .row-place .ensures)
 
 returns : tie.Need-returns
 returns c = let r = c .before in c .words-at .ensures ∙ ap (λ (f : RowPlace). rowWordsAt f (now (r .before .before .args .book)))

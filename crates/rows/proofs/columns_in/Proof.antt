@@ -186,8 +186,8 @@ module _ {M : Type 1} (𝓤 : URA M) (H : Heap 𝓤) (A : Atoms 𝓤) (W : Given
         use1 W (later
         (some (λ (z : Columns). (tok (α ∷ []) ⊛ ‵ (CT .own z (v ∷ []))) ⊛ raw
         (ensured 𝓤 H A g.ended (g.clauses 𝓤 H A mem run) (α ∷ [], tt) (r, tt) tt z)))) (id⊢ 𝓤 _) $ await ! tt $ pick ! (λ z.
-        split ! $ move ! (1 ∷ []) $ use1 W (raw (fact 𝓤 (RowsInColumns (now r) z))) (g-said (α ∷ []) r z) $ heard ! (RowsInColumns (now r) z)
-        (λ e′. split ! $ move ! (1 ∷ []) $
+        split ! $ move ! (1 ∷ []) $ use1 W (raw (fact 𝓤 (RowsInColumns (now r) z))) (g-said (α ∷ []) r z) $
+        heard ! (RowsInColumns (now r) z) (λ e′. split ! $ move ! (1 ∷ []) $
         peeks ! CT (Is CT) (shows 𝓤 H A CT) z (v ∷ []) (λ ok′.
         land ! (from ! (stop !)) (init ! 10 refl (LL.lawful K.the-type K′.the-laws 𝓤 H A W .typed z _ ok′ .0)) $
         -- the lifetime ends, and the table's memory is the function's own again

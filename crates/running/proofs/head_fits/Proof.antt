@@ -17,6 +17,9 @@ is-between-requires c κs = search needs
 shared-slice-read-result : tie.Need-shared-slice-read-result
 shared-slice-read-result c = search needs
 
+shared-slice-read-result-2 : tie.Need-shared-slice-read-result-2
+shared-slice-read-result-2 c = search needs
+
 is-between-requires-2 : tie.Need-is-between-requires-2
 is-between-requires-2 c κs = search needs
 
@@ -32,5 +35,6 @@ head-fits-spec =
     shared-slice-read-is-between
     is-between-requires
     shared-slice-read-result
+    shared-slice-read-result-2
     is-between-requires-2
     returns)

@@ -5,7 +5,7 @@ use mathlib.Core.Path.{sym, _∙_}
 use borrow.Author.Needs.{needs}
 use borrow.Author.Tests.{le-leb, lt-leb}
 use Rattle.running.specs.Words.{isDesk}
-use Rattle.running.proofs.Fits.{few-rows}
+use Rattle.running.proofs.Fits.{head-says}
 use Rattle.running.proofs.is_desk.Statement.{statement}
 use Rattle.running.proofs.is_desk.Tie as tie
 
@@ -20,10 +20,12 @@ shared-slice-read-rows-fit : tie.Need-shared-slice-read-rows-fit
 shared-slice-read-rows-fit c = search needs
 
 cast-rows-fit : tie.Need-cast-rows-fit
-cast-rows-fit c = omega (arith, few-rows _ (sym (c .before .before .head-fits .ensures) ∙ c .before .if2 .taken))
+cast-rows-fit c = omega (arith, head-says _ (sym (c .before .before .head-fits .ensures) ∙ c .before .if2 .taken))
 
 rows-fit-requires : tie.Need-rows-fit-requires
-rows-fit-requires c κs = (few-rows _ (sym (c .before .before .head-fits .ensures) ∙ c .before .if2 .taken), omega arith)
+rows-fit-requires c κs =
+    let h = head-says _ (sym (c .before .before .head-fits .ensures) ∙ c .before .if2 .taken) in
+    (h .0, h .1, omega arith)
 
 returns-2 : tie.Need-returns-2
 unfolding isDesk

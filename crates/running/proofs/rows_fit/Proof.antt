@@ -8,6 +8,15 @@ use Rattle.running.proofs.rows_fit.Tie as tie
 column-fits-requires : tie.Need-column-fits-requires
 column-fits-requires c κs = search needs
 
+shared-slice-read-opening : tie.Need-shared-slice-read-opening
+shared-slice-read-opening c = search needs
+
+add-column-fits : tie.Need-add-column-fits
+add-column-fits c = search needs
+
+add-column-fits-2 : tie.Need-add-column-fits-2
+add-column-fits-2 c = search needs
+
 column-fits-requires-2 : tie.Need-column-fits-requires-2
 column-fits-requires-2 c κs = search needs
 
@@ -26,6 +35,9 @@ rows-fit-spec =
     tie.close
     (tie.spec
     column-fits-requires
+    shared-slice-read-opening
+    add-column-fits
+    add-column-fits-2
     column-fits-requires-2
     column-fits-requires-3
     column-fits-requires-4

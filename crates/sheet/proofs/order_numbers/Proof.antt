@@ -8,7 +8,7 @@ use lib.ListN.{getD}
 use Rattle.outcomes.specs.declared.OrderAnswer.{OrderAnswer}
 use Rattle.outcomes.specs.Planning.{Outcome}
 use Rattle.calls.specs.Calls.{boundCall}
-use Rattle.readers.specs.Reads.{orderingRule}
+use Rattle.sheet.specs.Printing.{slateTerms}
 use Rattle.sheet.proofs.Standing.{signed-word}
 use native.Mathlib.Omega.{arith}
 use Rattle.sheet.proofs.order_numbers.Statement.{statement}
@@ -33,7 +33,7 @@ returns c =
       search needs,
       c .before .before .name-rows .ensures ∙ ap (map (λ i. getD (a .numbers .now) i 0))
           (ap (λ (o : Outcome OrderAnswer). o .buffer) (far .order-for-bound .ensures) ∙ ap
-          (λ (y : ℤ). boundCall orderingRule (a .book .now) y (a .order .now) .buffer)
+          (λ (y : ℤ). boundCall slateTerms (a .book .now) y (a .order .now) .buffer)
           (signed-word (a .late) (omega arith) (far .before .before .signed-of .result) (far .before .before .signed-of .ensures))),
     )
 

@@ -48,7 +48,7 @@ put-listing-requires : tie.Need-put-listing-requires
 put-listing-requires c κs =
     let far = c .before .before .before .before .before .before .before .before in
     let l = c .before .before .before .before .before .before .list in
-    let g = ap (λ (r : ListAnswer). gives r (l .last .1 .0)) (sym (c .before .before .before .count .given .1)) ∙ l .ensures in
+    let g = ap (λ (r : ListAnswer). gives r (l .last .1 .1 .0)) (sym (c .before .before .before .count .given .1)) ∙ l .ensures in
     ((far .no-plans .result, sym (far .no-plans .ensures), g), far .before .before .before .before .before .before .pre .1)
 
 same-length-2 : tie.Need-same-length-2
@@ -59,12 +59,12 @@ returns-2 c =
     let far = c .before .before .before .before .before .before .before .before in
     let a = far .before .before .before .before .before .before .before .before .args in
     let l = far .list in
-    let g = ap (λ (r : ListAnswer). gives r (l .last .1 .0)) (sym (c .before .before .before .before .before .number .given .1)) ∙
+    let g = ap (λ (r : ListAnswer). gives r (l .last .1 .1 .0)) (sym (c .before .before .before .before .before .number .given .1)) ∙
     l .ensures in
     let even = even-shown (a .input .now) (a .book .now)
     (far .before .before .before .before .before .before .before .before .pre .0)
     (sym (far .before .before .before .before .is-odd .ensures) ∙ far .before .before .before .if1 .left) in
-    let turned = list-turned (a .book .now) (far .before .before .no-plans .result) (l .last .1 .0)
+    let turned = list-turned (a .book .now) (far .before .before .no-plans .result) (l .last .1 .1 .0)
     (sym (far .before .before .no-plans .ensures)) _ _ g in
     all-counted (same-added (le-refl 53) (sym (even ∙ turned)) (c .before .before .refused-line2 .ensures))
 

@@ -10,7 +10,7 @@ use lib.ListN.{length, take, drop, getD}
 use lib.Seq.{length-take-le}
 use Rattle.results.specs.Results.{signed}
 use Rattle.calls.specs.Calls.{boundCall}
-use Rattle.readers.specs.Reads.{orderingRule}
+use Rattle.sheet.specs.Printing.{slateTerms}
 use Rattle.lines.specs.LineBytes.{planLine}
 use Rattle.lines.proofs.Adding.{same-added}
 use Rattle.sheet.proofs.Standing.{front-blank, lent-front, lent-room, lent-count}
@@ -67,7 +67,7 @@ returns c =
     let f = lent-front n (o .last .1 .1 .1 .0) (drop n b) (o .ensures .0 ∙ e) in
     let blank = ap (take n) (far .before .before .no-order .ensures .1) ∙ front-blank n 256 (omega arith) in
     let named = ap (λ (ws : List ℕ). map (λ i. getD (a .numbers .now) i 0)
-    (boundCall orderingRule (a .book .now) (signed (a .late)) ws .buffer)) blank in
+    (boundCall slateTerms (a .book .now) (signed (a .late)) ws .buffer)) blank in
     same-added (le-refl 2900) (ap (planLine (a .plan) (a .end) (signed (a .late))) (f ∙ (o .ensures .1 ∙ named)))
     (c .before .before .plan-line .ensures)
 
