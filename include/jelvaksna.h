@@ -42,6 +42,16 @@
  * posting count from 1, in the sequence of the book; they are not the order
  * numbers of the kind 3 words.
  *
+ * OPENING. The software takes some minutes to open each transcript, the same for
+ * all: `opening`, from 0 to 30, is the first argument of the nine calls that
+ * work out ends or open a desk. A row ends at its start plus opening plus length.
+ * Length is the reading time alone: spare and the due of a class do not count
+ * opening, nor does the test which rows disagree. Outside 0 to 30 such a call is
+ * refused RANGE at 0, before the book is looked at.
+ *
+ * From 1.x: pass 0 as the first argument of these nine calls, and every answer
+ * is what 1.5 gave. A desk that 1.5 left is, word for word, one opened with 0.
+ *
  * A PLAN is a pair that some order of all rows attains, its end and its worst
  * lateness (the largest of end minus due; below 0 where all work is early),
  * such that no order has both numbers no greater and one of them smaller. The
@@ -59,14 +69,15 @@
  * by both or by neither. Where both accept it they list the same plan, though
  * its order may differ.
  *
- * THE OPEN DESK is a run of JELVAKSNA_DESK_WORDS words or more that an opening
- * fills from a book. It holds the rows, which of them are done, the desk's
- * minute, and the worst lateness so far: none until a row is done. Later calls
- * on it lend no book. A start takes a row off the rows left. The list and the
- * order of a plan are those of the rows left, which keep their row numbers,
- * from the desk's minute on; latenesses are those of the rows left alone. The
- * profile has no open desk. Words of a longer run past those of the desk hold
- * what they held, in every call.
+ * THE OPEN DESK is a run of JELVAKSNA_DESK_WORDS words or more that is filled
+ * from a book when it is opened. It holds the rows, which of them are done, the
+ * opening minutes that it was opened with, the desk's minute, and the worst
+ * lateness so far: none until a row is done. Later calls on it lend no book and
+ * are told no opening. A start takes a row off the rows left. The list and the
+ * order of a plan are those of the rows left, which keep their row numbers, from
+ * the desk's minute on; latenesses are those of the rows left alone. The profile
+ * has no open desk. Words of a longer run past those of the desk hold what they
+ * held, in every call.
  *
  * How the words are laid out is the library's own and may change with a
  * version; how many they are does not. On one version a desk may be copied,
@@ -77,17 +88,18 @@
  * give.
  *
  * A run that is shorter, or that a call can see to be no desk, is refused RANGE
- * at 0 and left as it is. But a run that no opening has filled, or that was
- * written to since, may also pass for a desk: what is said here of memory then
- * holds, and nothing else is promised.
+ * at 0 and left as it is. But a run that was never opened, or that was written
+ * to since, may also pass for a desk: what is said here of memory then holds,
+ * and nothing else is promised.
  *
- * Ends and latenesses on a desk are at most 27,680,000 (on a book 17,680,000).
- * A start past minute 20,000,000 is refused EARLY, so a desk whose own minute
- * is past it can start nothing more; its list and its orders go on.
+ * Ends and latenesses on a desk are at most 27,687,680 (on a book 17,687,680),
+ * its minute at most 20,030,030. A start past minute 20,000,000 is refused
+ * EARLY, so a desk whose own minute is past it can start nothing more; its list
+ * and its orders go on.
  *
  * WHAT IS LENT. Pointers are aligned for uint32_t, their lengths count words,
- * and all those words can be read; those of `result`, and of the desk in an
- * opening and a start, can also be written. What can be written overlaps
+ * and all those words can be read; those of `result`, and of the desk that is
+ * opened or started on, can also be written. What can be written overlaps
  * nothing else that is lent to the same call: no `result` overlaps a desk, and
  * no desk its book. Where a length is 0 the pointer may be NULL. Only `result`
  * and the desk that is opened or started on are ever written, on success only,
@@ -97,11 +109,12 @@
  * STACK. A call uses up to 40 KB of its caller's stack, as measured on x86-64;
  * that there is room is not proved. Give a thread that calls 64 KB at least.
  *
- * THE SEQUENCE OF REFUSALS. The words of the book are tested from the first
- * on, at one word in the sequence CUT, KIND, FULL, RANGE, TWICE, COUNT. Then
- * come TAIL, DISORDER (in the profile CROSSED), NOT_POSTING, UNLISTED, DONE,
- * EARLY, NARROW, UNKEPT. A call that is lent a desk in place of a book begins
- * with RANGE, at 0. The first condition met is the one that is told.
+ * THE SEQUENCE OF REFUSALS. A call that is told an opening, or lent a desk in
+ * place of a book, begins with RANGE, at 0. The words of the book are tested
+ * from the first on, at one word in the sequence CUT, KIND, FULL, RANGE, TWICE,
+ * COUNT. Then come TAIL, DISORDER (in the profile CROSSED), NOT_POSTING,
+ * UNLISTED, DONE, EARLY, NARROW, UNKEPT. The first condition met is the one that
+ * is told.
  */
 #ifndef JELVAKSNA_H
 #define JELVAKSNA_H
@@ -109,12 +122,12 @@
 #include <stddef.h>
 #include <stdint.h>
 
-#define JELVAKSNA_VERSION "1.5"
+#define JELVAKSNA_VERSION "2.0"
 
 /* The refusals, and the place that comes with each. */
 #define JELVAKSNA_CUT 1          /* the book stops where a word is due: its length */
 #define JELVAKSNA_KIND 2         /* another kind is due here: the word */
-#define JELVAKSNA_RANGE 3        /* a value outside its range: the word; no desk: 0 */
+#define JELVAKSNA_RANGE 3        /* a value outside its range: the word; the opening, or no desk: 0 */
 #define JELVAKSNA_TWICE 4        /* the number of an earlier row: the number word */
 #define JELVAKSNA_FULL 5         /* a number word would open row 257: that word */
 #define JELVAKSNA_COUNT 6        /* the end word differs from the rows read: that word */
@@ -129,6 +142,7 @@
 #define JELVAKSNA_EARLY 15       /* before the desk's minute or the release, or past 20,000,000: 0 */
 
 /* Limits. */
+#define JELVAKSNA_MAX_OPENING 30      /* opening minutes */
 #define JELVAKSNA_MAX_ROWS 256        /* words that any order fits in */
 #define JELVAKSNA_MAX_LIST_WORDS 512  /* words that any list fits in */
 #define JELVAKSNA_MAX_BOOK_WORDS 1027 /* words of the longest accepted book */
@@ -156,7 +170,8 @@ typedef struct jelvaksna_answer {
  * two's complement, so that (int32_t)result[1] is the first plan's lateness.
  * Answers `count`, the count of plans, at least 1.
  * Refused: 1 to 8, NARROW. */
-jelvaksna_answer jelvaksna_list(const uint32_t *book, size_t book_len,
+jelvaksna_answer jelvaksna_list(uint32_t opening,
+                                const uint32_t *book, size_t book_len,
                                 uint32_t *result, size_t result_len);
 
 /* The order for a lateness bound: an order of all rows with no row later than
@@ -165,14 +180,16 @@ jelvaksna_answer jelvaksna_list(const uint32_t *book, size_t book_len,
  * `result` has one word for each row or more and takes the row numbers. Answers
  * `end` and `late`, the order's own.
  * Refused: 1 to 8, NARROW, UNKEPT. */
-jelvaksna_answer jelvaksna_order_for_bound(const uint32_t *book, size_t book_len,
+jelvaksna_answer jelvaksna_order_for_bound(uint32_t opening,
+                                           const uint32_t *book, size_t book_len,
                                            int32_t bound,
                                            uint32_t *result, size_t result_len);
 
 /* The order of a listed plan, counted from 1. `result` as for a bound. Answers
  * `end` and `late`, the plan's pair.
  * Refused: 1 to 8, UNLISTED with the count of plans, NARROW. */
-jelvaksna_answer jelvaksna_order_of_plan(const uint32_t *book, size_t book_len,
+jelvaksna_answer jelvaksna_order_of_plan(uint32_t opening,
+                                         const uint32_t *book, size_t book_len,
                                          uint32_t plan,
                                          uint32_t *result, size_t result_len);
 
@@ -182,12 +199,14 @@ jelvaksna_answer jelvaksna_order_of_plan(const uint32_t *book, size_t book_len,
  * Refused: 1 to 8, NOT_POSTING. Its place is the smaller of posting_len and
  * the count of rows where these differ, otherwise the place in the posting,
  * from 0, of the first entry that is no row or came before. */
-jelvaksna_answer jelvaksna_verdict(const uint32_t *book, size_t book_len,
+jelvaksna_answer jelvaksna_verdict(uint32_t opening,
+                                   const uint32_t *book, size_t book_len,
                                    const uint32_t *posting, size_t posting_len);
 
 /* Where a row stands, counted from 1. Answers `place`, the place of its number
  * word: the row's four words are book[place] to book[place + 3], the last of
- * them its due word or its class word.
+ * them its due word or its class word. It works out no ends, so it is told no
+ * opening.
  * Refused: 1 to 8, UNLISTED with the count of rows. */
 jelvaksna_answer jelvaksna_row_place(const uint32_t *book, size_t book_len,
                                      uint32_t row);
@@ -197,21 +216,25 @@ jelvaksna_answer jelvaksna_row_place(const uint32_t *book, size_t book_len,
  * place of DISORDER. What follows from there being one plan stands at each.
  *
  * The list: `count` is 1. `result` has two words for each row all the same. */
-jelvaksna_answer jelvaksna_first_come_list(const uint32_t *book, size_t book_len,
+jelvaksna_answer jelvaksna_first_come_list(uint32_t opening,
+                                           const uint32_t *book, size_t book_len,
                                            uint32_t *result, size_t result_len);
 
 /* The order for a lateness bound: that of the one plan, if it keeps the bound. */
-jelvaksna_answer jelvaksna_first_come_order_for_bound(const uint32_t *book, size_t book_len,
+jelvaksna_answer jelvaksna_first_come_order_for_bound(uint32_t opening,
+                                                      const uint32_t *book, size_t book_len,
                                                       int32_t bound,
                                                       uint32_t *result, size_t result_len);
 
 /* The order of a listed plan: of plan 1. Any other is UNLISTED with place 1. */
-jelvaksna_answer jelvaksna_first_come_order_of_plan(const uint32_t *book, size_t book_len,
+jelvaksna_answer jelvaksna_first_come_order_of_plan(uint32_t opening,
+                                                    const uint32_t *book, size_t book_len,
                                                     uint32_t plan,
                                                     uint32_t *result, size_t result_len);
 
 /* The verdict on a posting: `count` is 1 if the one plan beats it, otherwise 0. */
-jelvaksna_answer jelvaksna_first_come_verdict(const uint32_t *book, size_t book_len,
+jelvaksna_answer jelvaksna_first_come_verdict(uint32_t opening,
+                                              const uint32_t *book, size_t book_len,
                                               const uint32_t *posting, size_t posting_len);
 
 /* Where a row stands. */
@@ -220,16 +243,19 @@ jelvaksna_answer jelvaksna_first_come_row_place(const uint32_t *book, size_t boo
 
 /* The calls of the open desk.
  *
- * Opens a desk with a book: all its rows are left, at the free minute. `desk`
- * has JELVAKSNA_DESK_WORDS words or more and may hold anything; so many of them
- * are written. Answers `count`, the count of rows, and `minute`, the desk's.
+ * Opens a desk with a book: all its rows are left, at the free minute. It keeps
+ * `opening`. `desk` has JELVAKSNA_DESK_WORDS words or more and may hold
+ * anything; so many of them are written. Answers `count`, the count of rows, and
+ * `minute`, the desk's.
  * Refused: 1 to 8, NARROW. */
-jelvaksna_answer jelvaksna_desk_open(const uint32_t *book, size_t book_len,
+jelvaksna_answer jelvaksna_desk_open(uint32_t opening,
+                                     const uint32_t *book, size_t book_len,
                                      uint32_t *desk, size_t desk_len);
 
 /* Starts a row at a minute. The row is done, and the desk moves to that minute
- * plus the row's length. Answers `minute`, the desk's new one, and `late`, the
- * worst lateness so far; it is below 0 where every row done was early.
+ * plus opening plus the row's length. Answers `minute`, the desk's new one, and
+ * `late`, the worst lateness so far; it is below 0 where every row done was
+ * early.
  * Refused: RANGE, UNLISTED with the count of all rows of the desk, DONE with
  * the row, EARLY. */
 jelvaksna_answer jelvaksna_desk_start(uint32_t *desk, size_t desk_len,

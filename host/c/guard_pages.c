@@ -38,10 +38,10 @@ static int bad(const char *what, size_t n) {
 
 /* The calls of a profile. */
 typedef struct {
-    jelvaksna_answer (*list)(const uint32_t *, size_t, uint32_t *, size_t);
-    jelvaksna_answer (*order_for_bound)(const uint32_t *, size_t, int32_t, uint32_t *, size_t);
-    jelvaksna_answer (*order_of_plan)(const uint32_t *, size_t, uint32_t, uint32_t *, size_t);
-    jelvaksna_answer (*verdict)(const uint32_t *, size_t, const uint32_t *, size_t);
+    jelvaksna_answer (*list)(uint32_t, const uint32_t *, size_t, uint32_t *, size_t);
+    jelvaksna_answer (*order_for_bound)(uint32_t, const uint32_t *, size_t, int32_t, uint32_t *, size_t);
+    jelvaksna_answer (*order_of_plan)(uint32_t, const uint32_t *, size_t, uint32_t, uint32_t *, size_t);
+    jelvaksna_answer (*verdict)(uint32_t, const uint32_t *, size_t, const uint32_t *, size_t);
     jelvaksna_answer (*row_place)(const uint32_t *, size_t, uint32_t);
 } profile;
 
@@ -55,8 +55,9 @@ static const profile first_come = {
     jelvaksna_first_come_verdict, jelvaksna_first_come_row_place,
 };
 
-/* All calls on the first n words of a sound book of so many rows. */
-static int calls(const profile *of, const uint32_t *sound, size_t n, size_t rows, int at_end) {
+/* All calls with so many opening minutes on the first n words of a sound book of
+ * so many rows. */
+static int calls(const profile *of, uint32_t opening, const uint32_t *sound, size_t n, size_t rows, int at_end) {
     const size_t whole = 4 * rows + 3;
     uint32_t *book = fenced(sound, n, at_end, PROT_READ);
     uint32_t *list = fenced(NULL, 2 * rows, at_end, PROT_READ | PROT_WRITE);
@@ -66,12 +67,12 @@ static int calls(const profile *of, const uint32_t *sound, size_t n, size_t rows
     const uint32_t want = n < whole ? JELVAKSNA_CUT : 0;
     const size_t cut = n < whole ? n : 0;
 
-    jelvaksna_answer a = of->list(book, n, list, 2 * rows);
+    jelvaksna_answer a = of->list(opening, book, n, list, 2 * rows);
     if (a.refusal != want || a.place != cut || (want == 0) != (a.count > 0))
         return bad("list", n);
     const size_t plans = a.count;
     for (size_t plan = 0; plan <= plans + 1; plan++) {
-        a = of->order_of_plan(book, n, (uint32_t)plan, order, rows);
+        a = of->order_of_plan(opening, book, n, (uint32_t)plan, order, rows);
         uint32_t expected = want != 0 ? want : plan == 0 || plan > plans ? JELVAKSNA_UNLISTED : 0;
         if (a.refusal != expected)
             return bad("order of a plan", n);
@@ -79,16 +80,16 @@ static int calls(const profile *of, const uint32_t *sound, size_t n, size_t rows
             if (a.end != list[2 * plan - 2] || (uint32_t)a.late != list[2 * plan - 1])
                 return bad("pair of a plan", n);
             uint32_t *posting = fenced(order, rows, at_end, PROT_READ);
-            a = of->verdict(book, n, posting, rows);
+            a = of->verdict(opening, book, n, posting, rows);
             if (a.refusal != 0 || a.count != 0 || a.end != list[2 * plan - 2])
                 return bad("verdict on a plan", n);
             unfence(posting, rows, at_end);
         }
     }
-    a = of->order_for_bound(book, n, INT32_MAX, order, rows);
+    a = of->order_for_bound(opening, book, n, INT32_MAX, order, rows);
     if (a.refusal != want || (want == 0 && a.end != list[0]))
         return bad("order for a bound", n);
-    a = of->order_for_bound(book, n, INT32_MIN, order, rows);
+    a = of->order_for_bound(opening, book, n, INT32_MIN, order, rows);
     if (a.refusal != (want != 0 ? want : JELVAKSNA_UNKEPT))
         return bad("bound that is not kept", n);
     a = of->row_place(book, n, (uint32_t)rows);
@@ -97,12 +98,20 @@ static int calls(const profile *of, const uint32_t *sound, size_t n, size_t rows
 
     /* Empty buffers at addresses that cannot be touched. */
     uint32_t *dead = at_end ? order + rows : order - 1;
-    if (want == 0 && of->list(book, n, dead, 0).refusal != JELVAKSNA_NARROW)
+    if (want == 0 && of->list(opening, book, n, dead, 0).refusal != JELVAKSNA_NARROW)
         return bad("empty result", n);
-    if (want == 0 && of->verdict(book, n, dead, 0).refusal != JELVAKSNA_NOT_POSTING)
+    if (want == 0 && of->verdict(opening, book, n, dead, 0).refusal != JELVAKSNA_NOT_POSTING)
         return bad("empty posting", n);
     if (of->row_place(dead, 0, 1).refusal != JELVAKSNA_CUT)
         return bad("empty book", n);
+
+    /* Refused for the opening minutes, whatever the lengths. */
+    a = of->list(JELVAKSNA_MAX_OPENING + 1, book, n, list, 2 * rows);
+    if (a.refusal != JELVAKSNA_RANGE || a.place != 0)
+        return bad("opening minutes", n);
+    a = of->verdict(UINT32_MAX, dead, 0, dead, 0);
+    if (a.refusal != JELVAKSNA_RANGE || a.place != 0)
+        return bad("opening minutes, all empty", n);
 
     unfence(book, n, at_end);
     unfence(list, 2 * rows, at_end);
@@ -137,11 +146,11 @@ int main(void) {
         for (size_t rows = 1; rows <= 40; rows += 3) {
             const size_t whole = make(book, rows, 1);
             for (size_t n = 0; n <= whole; n++)
-                if (calls(&standard, book, n, rows, at_end) != 0)
+                if (calls(&standard, (uint32_t)n % (JELVAKSNA_MAX_OPENING + 1), book, n, rows, at_end) != 0)
                     return 1;
             make(book, rows, 0);
             for (size_t n = 0; n <= whole; n++)
-                if (calls(&first_come, book, n, rows, at_end) != 0)
+                if (calls(&first_come, (uint32_t)n % (JELVAKSNA_MAX_OPENING + 1), book, n, rows, at_end) != 0)
                     return 1;
         }
     }

@@ -1,6 +1,6 @@
 /* A morning at an open desk: opened with a book, planned, two rows started,
- * planned again; starts that are refused, with what is wrong and where; and the
- * desk at the end of the day.
+ * planned again; starts that are refused, with what is wrong and where; the desk
+ * at the end of the day; and a desk where each transcript takes minutes to open.
  *
  *     cc -std=c11 -Iinclude host/c/morning.c target/staticlib/libjelvaksna.a
  */
@@ -65,19 +65,25 @@ int main(void) {
         JELVAKSNA_WORD(7, 4),
     };
     const size_t words = sizeof book / sizeof *book;
-    static uint32_t desk[JELVAKSNA_DESK_WORDS];
+    static uint32_t desk[JELVAKSNA_DESK_WORDS], slow[JELVAKSNA_DESK_WORDS];
 
-    /* A run that no opening has filled is no desk, and one word less is too short for one. */
+    /* Words that were never opened are no desk, and one word less is too short for one. */
     jelvaksna_answer answer = start(desk, 1, 481);
     EXPECT(answer.refusal == JELVAKSNA_RANGE && answer.place == 0);
-    answer = jelvaksna_desk_open(book, words, desk, JELVAKSNA_DESK_WORDS - 1);
+    answer = jelvaksna_desk_open(0, book, words, desk, JELVAKSNA_DESK_WORDS - 1);
     EXPECT(answer.refusal == JELVAKSNA_NARROW && answer.place == 0);
 
-    /* From the opening on the desk carries the rows. The book is not needed. */
-    answer = jelvaksna_desk_open(book, words, desk, JELVAKSNA_DESK_WORDS);
+    /* Two desks: at the second one each transcript takes 2 minutes to open. More than 30 are refused. */
+    answer = jelvaksna_desk_open(0, book, words, desk, JELVAKSNA_DESK_WORDS);
     EXPECT(answer.refusal == 0 && answer.count == 4 && answer.minute == 480);
+    answer = jelvaksna_desk_open(2, book, words, slow, JELVAKSNA_DESK_WORDS);
+    EXPECT(answer.refusal == 0 && answer.count == 4 && answer.minute == 480);
+    answer = jelvaksna_desk_open(JELVAKSNA_MAX_OPENING + 1, book, words, slow, JELVAKSNA_DESK_WORDS);
+    EXPECT(answer.refusal == JELVAKSNA_RANGE && answer.place == 0);
+
+    /* From here on the desks carry the rows. The book is not needed. */
     memset(book, 0, sizeof book);
-    printf("opened: %zu rows, minute %" PRIu32 "\n", answer.count, answer.minute);
+    puts("opened: 4 rows, minute 480");
     EXPECT(print_plans(desk, 4) == 2);
 
     /* The second plan it is. Row 2 waits a minute longer than planned. */
@@ -118,5 +124,11 @@ int main(void) {
     EXPECT(print_plans(copy, 0) == 0);
     answer = jelvaksna_desk_order_of_plan(copy, JELVAKSNA_DESK_WORDS, 1, NULL, 0);
     EXPECT(answer.refusal == JELVAKSNA_UNLISTED && answer.place == 0);
+
+    /* The other desk keeps its opening minutes: a start moves it by 2 plus the length. */
+    puts("2 minutes to open each:");
+    EXPECT(print_plans(slow, 4) == 2);
+    answer = start(slow, 1, 481);
+    EXPECT(answer.refusal == 0 && answer.minute == 484 && answer.late == -1);
     return 0;
 }

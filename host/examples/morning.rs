@@ -1,5 +1,5 @@
 //! A morning at an open desk through the safe wrapper: opened with a book, planned, two rows
-//! started, planned again; and starts that are refused.
+//! started, planned again; starts that are refused; and a desk where each row takes time to open.
 //!
 //!     cargo run --offline --release --manifest-path host/Cargo.toml --example morning
 
@@ -25,9 +25,11 @@ fn main() -> Result<(), Refusal> {
     book.extend([word(3, 904), word(4, 540), word(5, 20), word(6, 562)]);
     book.push(word(7, 4));
 
-    // From here on the desk carries the rows.
-    let mut words = [0; DESK_WORDS];
-    let opened = desk::open(&book, &mut words)?;
+    // Two desks: at the second one each transcript takes 2 minutes to open. From here on they carry
+    // the rows.
+    let (mut words, mut slow) = ([0; DESK_WORDS], [0; DESK_WORDS]);
+    let opened = desk::open(0, &book, &mut words)?;
+    desk::open(2, &book, &mut slow)?;
     drop(book);
     println!("opened: {} rows, minute {}", opened.rows, opened.minute);
     print_plans(&words, 4)?;
@@ -51,5 +53,11 @@ fn main() -> Result<(), Refusal> {
         }
         assert_eq!(words, before);
     }
+
+    // The other desk keeps its opening minutes: a start moves it by 2 plus the length.
+    println!("2 opening minutes:");
+    print_plans(&slow, 4)?;
+    let moved = desk::start(&mut slow, 1, 481)?;
+    println!("row 1 started at 481: the desk is free at {}", moved.minute);
     Ok(())
 }

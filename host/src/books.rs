@@ -8,7 +8,7 @@
 //! disagree.
 
 use crate::model::{length, MARGINS, MAX_ROWS};
-use crate::{word, Pair};
+use crate::{word, Pair, MAX_OPENING};
 use std::ops::Range;
 
 /// The seed of a test run: `JELVAKSNA_SEED` (decimal, or hexadecimal after 0x), or a fixed one.
@@ -81,6 +81,20 @@ impl Rng {
     }
 }
 
+/// Opening minutes that are accepted.
+pub const OPENINGS: [u32; 6] = [0, 1, 2, 7, 29, MAX_OPENING];
+
+/// Opening minutes that are refused.
+pub const REFUSED_OPENINGS: [u32; 4] = [MAX_OPENING + 1, MAX_OPENING + 2, 1 << 31, u32::MAX];
+
+/// Opening minutes, once in so many times such that are refused.
+pub fn opening(rng: &mut Rng, refused_one_in: usize) -> u32 {
+    match rng.one_in(refused_one_in) {
+        true => rng.pick(&REFUSED_OPENINGS),
+        false => rng.pick(&OPENINGS),
+    }
+}
+
 /// A day before it is put into words.
 #[derive(Clone, Debug)]
 pub struct Draft {
@@ -148,6 +162,20 @@ impl Draft {
             row.class = Some(class);
         }
         self
+    }
+
+    /// The same releases and dues with lengths that are so many minutes longer, at 60 pages an hour,
+    /// where a page takes a minute; none if a row would have too many pages.
+    pub fn lengthened(&self, minutes: u32) -> Option<Draft> {
+        let longer = |row: &DraftRow| DraftRow {
+            pages: self.length(row) + i64::from(minutes),
+            class: None,
+            ..*row
+        };
+        let rows: Vec<DraftRow> = self.rows.iter().map(longer).collect();
+        let fit = rows.iter().all(|row| row.pages <= MOST_PAGES);
+        let (free, pace) = (self.free, 60);
+        fit.then_some(Draft { free, pace, rows })
     }
 
     /// The same rows in a sequence by chance.
@@ -313,37 +341,43 @@ impl Draft {
 
 const LAST_RELEASE: i64 = 10_000_000;
 const LAST_DUE: i64 = 20_000_000;
+const MOST_PAGES: i64 = 2_000;
+
+// ---- Books of the ordering rule ----
+//
+// Makers that leave the desk idle now and then, so that there are choices, are told the opening minutes
+// that the day is planned with.
 
 /// The i-th of a series of long days, accepted ones: 49 rows to the most, of each make.
-pub fn long(rng: &mut Rng, i: u64) -> Draft {
+pub fn long(rng: &mut Rng, opening: u32, i: u64) -> Draft {
     let rows = match i % 3 {
         0 => MAX_ROWS,
         _ => rng.range(49, MAX_ROWS as i64) as usize,
     };
     match i % 4 {
-        0 => typical_day(rng, rows).varied(rng),
-        1 => contests(rng, rows).varied(rng),
-        _ => accepted(rng, rows),
+        0 => typical_day(rng, opening, rows).varied(rng),
+        1 => contests(rng, opening, rows).varied(rng),
+        _ => accepted(rng, opening, rows),
     }
 }
 
 /// A day of so many rows, of a shape chosen at random: crowded or idle, early or late, with ties,
 /// with rows of one length or of many, at the limits or far from them, with class rows or without,
 /// sorted or not.
-pub fn accepted(rng: &mut Rng, rows: usize) -> Draft {
+pub fn accepted(rng: &mut Rng, opening: u32, rows: usize) -> Draft {
     let day = match rng.below(8) {
         0 => limits(rng, rows),
-        _ => within_limits(rng, rows),
+        _ => within_limits(rng, opening, rows),
     };
     day.varied(rng)
 }
 
 /// A sorted day of due rows with room for later releases and dues.
-fn within_limits(rng: &mut Rng, rows: usize) -> Draft {
+fn within_limits(rng: &mut Rng, opening: u32, rows: usize) -> Draft {
     match rng.below(9) {
-        0 | 1 => several_plans(rng, rows),
-        2 | 3 => contests(rng, rows),
-        4 => typical_day(rng, rows),
+        0 | 1 => several_plans(rng, opening, rows),
+        2 | 3 => contests(rng, opening, rows),
+        4 => typical_day(rng, opening, rows),
         5 => ties(rng, rows),
         _ => mixed(rng, rows),
     }
@@ -352,7 +386,7 @@ fn within_limits(rng: &mut Rng, rows: usize) -> Draft {
 /// A day of two rows and more that is refused for disorder alone: two rows disagree, and in one day
 /// of two (from four rows on) two others do. Unsorted, they may stand far apart.
 pub fn disagreeing(rng: &mut Rng, rows: usize) -> Draft {
-    let day = within_limits(rng, rows).with_classes(rng);
+    let day = within_limits(rng, 0, rows).with_classes(rng);
     day.upset(rng, Draft::set_at_odds).arriving(rng)
 }
 
@@ -463,31 +497,32 @@ pub fn ties(rng: &mut Rng, rows: usize) -> Draft {
 
 /// One long row and short ones whose gaps grow by chance, so that there are often several plans. In
 /// one day of two some of the short ones share release and due, so that second picks tie.
-pub fn several_plans(rng: &mut Rng, rows: usize) -> Draft {
+pub fn several_plans(rng: &mut Rng, opening: u32, rows: usize) -> Draft {
     let pace = rng.pick(&[4, 8, 10, 20, 40, 60]);
-    let short = length(1, pace);
+    let time = |pages: i64| i64::from(opening) + length(pages, pace);
     let spare = rng.range(-40, 200);
     let shared = rng.one_in(2);
     let mut day = Draft::empty(rng.range(0, 20), pace);
     let mut gap = rng.range(1, 3);
+    let release = day.free + gap;
+    day.push(release, 1, (release + length(1, pace) + spare).max(0));
     // When the desk is through with the short rows if it does them as they come.
-    let mut minute = day.free + gap + short;
-    day.push(minute - short, 1, (minute + spare).max(0));
+    let mut minute = release + time(1);
     while day.rows.len() + 1 < rows {
         if shared && rng.one_in(2) {
             let above = *day.rows.last().unwrap();
             let pages = above.pages + rng.range(0, 1);
             day.add(above.release, pages, 0);
-            minute += length(pages, pace);
+            minute += time(pages);
         } else {
             gap = (gap + rng.pick(&[0, 0, 1, 1, 2, -1])).max(0);
             day.add(minute + gap, 1, 100);
-            minute += gap + short;
+            minute += gap + time(1);
         }
     }
     if rows > 1 {
         // Long enough to be released before the shorts, where the pages allow it.
-        let pages = ((minute - day.free) * pace / 60 + rng.range(1, 5)).clamp(1, 2_000);
+        let pages = ((minute - day.free) * pace / 60 + rng.range(1, 5)).clamp(1, MOST_PAGES);
         day.add(day.free, pages, 100);
     }
     day.number(rng);
@@ -496,68 +531,85 @@ pub fn several_plans(rng: &mut Rng, rows: usize) -> Draft {
 
 /// Short rows with growing gaps, time and again a long one that was there before them: a choice
 /// after a choice, most of them open again once the one before is settled.
-pub fn contests(rng: &mut Rng, rows: usize) -> Draft {
+pub fn contests(rng: &mut Rng, opening: u32, rows: usize) -> Draft {
+    let opening = i64::from(opening);
     let pace = rng.pick(&[30, 60, 60, 120]);
     let spare = rng.range(-5, 60);
     let every = rng.range(2, 9) as usize;
     let start = rng.range(0, 300);
     let mut day = Draft::empty(start, pace);
     let release = start + rng.range(1, 4);
-    let mut reach = release + length(1, pace);
+    let reach = release + length(1, pace);
     day.push(release, 1, (reach + spare).max(0));
-    // Where the busy desk would be by now.
-    let mut busy = start + length(1, pace);
+    // When the desk would be through with the row above that it starts at its release, and where the
+    // busy desk would be by now.
+    let mut through = reach + opening;
+    let mut busy = start + opening + length(1, pace);
     while day.rows.len() < rows {
         let i = day.rows.len();
         if i.is_multiple_of(every) {
             // A long row that the desk could have started before the shorts above.
-            let pages = rng.range(2, 12) * pace / 60 + (reach - busy).max(1) * pace / 60;
-            let pages = pages.clamp(1, 2_000);
-            day.add(busy.min(reach), pages, 100);
+            let pages = rng.range(2, 12) * pace / 60 + (through - busy).max(1) * pace / 60;
+            let pages = pages.clamp(1, MOST_PAGES);
+            day.add(busy.min(through), pages, 100);
         } else {
             let gap = rng.range(0, 2 + (i % every) as i64);
-            day.add(reach + gap, 1, 100);
+            day.add(through + gap, 1, 100);
         }
-        reach = day.reach(&day.rows[i]);
-        busy = busy.max(start) + day.length(&day.rows[i]);
+        through = day.reach(&day.rows[i]) + opening;
+        busy = busy.max(start) + opening + day.length(&day.rows[i]);
     }
     day.number(rng);
     day
 }
 
-/// The most rows for which [`many_plans`] has a plan for each row.
-pub const MOST_PLANS: usize = 230;
+/// The short and the long row of [`many_plans`]: 1 page and 2,000 pages at pace 4.
+const SHORT: i64 = 15;
+const LONG: i64 = 30_000;
 
-/// A day with as many plans as rows, up to 230 of each; further rows come last and add no plan.
+/// The most rows for which [`many_plans`] has a plan for each row: 230 with no opening minutes.
+pub fn most_plans(opening: u32) -> usize {
+    let (opening, mut minute, mut shorts) = (i64::from(opening), 0, 0);
+    loop {
+        let gap = shorts + 1;
+        minute += gap + opening + SHORT;
+        // Done last, the long row has to be less late than the last short one that it can hold up.
+        if minute + opening >= LONG + 2 * opening - gap {
+            return 1 + shorts as usize;
+        }
+        shorts = gap;
+    }
+}
+
+/// A day with as many plans as rows, up to the most; further rows come last and add no plan.
 ///
 /// One long row (2,000 pages at pace 4: 30,000 minutes) is there from the start, and short ones (1
 /// page: 15 minutes) are released so that the desk, if it does them as they come, idles 1, 2, 3 ..
 /// minutes before them. The long row fits in before any of them, or last. The later it is done, the
 /// more idle minutes; but the row that it holds up is then the one that came after the longer gap,
-/// and less late. That is a plan for each of these choices. The gaps may not outlast the long row,
-/// so there are at most 229. The further rows are released when the busy desk would be through.
-pub fn many_plans(rows: usize) -> Draft {
-    plans_among(rows, rows.min(MOST_PLANS))
+/// and less late. That is a plan for each of these choices. The gaps may not outlast the long row, so
+/// there are at most 229, and fewer the longer each row takes to open. The further rows are released
+/// when the busy desk would be through.
+pub fn many_plans(opening: u32, rows: usize) -> Draft {
+    plans_among(opening, rows, rows.min(most_plans(opening)))
 }
 
 /// The same with fewer plans than rows: the rows past the first `plans` come last and add no plan.
-pub fn plans_among(rows: usize, plans: usize) -> Draft {
+pub fn plans_among(opening: u32, rows: usize, plans: usize) -> Draft {
     assert!((2..=MAX_ROWS).contains(&rows));
-    assert!((2..=rows.min(MOST_PLANS)).contains(&plans));
-    const SHORT: i64 = 15;
-    const LONG: i64 = 30_000;
-    let shorts = plans as i64 - 1;
+    assert!((2..=rows.min(most_plans(opening))).contains(&plans));
+    let (opening, shorts) = (i64::from(opening), plans as i64 - 1);
     let mut day = Draft::empty(0, 4);
     // No row has any spare.
     let mut add = |release: i64, pages: i64| day.push(release, pages, release + length(pages, 4));
     let mut minute = 0;
     for gap in 1..=shorts {
         add(minute + gap, 1);
-        minute += gap + SHORT;
+        minute += gap + opening + SHORT;
     }
     add(0, 2_000);
     for _ in plans..rows {
-        add(LONG + SHORT * shorts, 1);
+        add(opening + LONG + (opening + SHORT) * shorts, 1);
     }
     day
 }
@@ -572,14 +624,14 @@ fn typical_pages(rng: &mut Rng) -> i64 {
 
 /// A day as a bureau may have it: steady work of mixed sizes, some idle minutes, dues some hours
 /// after the work could be done, and now and then a shorter promise.
-pub fn typical_day(rng: &mut Rng, rows: usize) -> Draft {
+pub fn typical_day(rng: &mut Rng, opening: u32, rows: usize) -> Draft {
     let pace = rng.range(20, 40);
     let mut arrivals = Vec::new();
     let mut minute = 480;
     for _ in 0..rows {
         arrivals.push((minute, typical_pages(rng)));
-        // A little more than the mean length of a row between two of them.
-        minute += rng.range(0, 62 * 60 / pace);
+        // A little more than the mean time of a row between two of them.
+        minute += rng.range(0, 62 * 60 / pace + 2 * i64::from(opening));
     }
     arrivals.sort_by_key(|&(release, pages)| release + length(pages, pace));
     let mut day = Draft::empty(480, pace);
@@ -678,21 +730,24 @@ fn one_class(rng: &mut Rng, rows: usize) -> Draft {
     day.of_class(rng.below(MARGINS.len()) as u32)
 }
 
-/// Days of the latest end and lateness that a book can have, and of the earliest work, with the pair
-/// of their one plan in either profile.
-pub fn at_the_limits() -> [(Draft, Pair); 2] {
-    let late: Vec<_> = (0..256).map(|i| (i, 10_000_000, 2_000, 0)).collect();
+/// Days of the latest end and lateness that a book can have, with opening minutes and without, and of
+/// the earliest work, with the pair of their one plan in either profile.
+pub fn at_the_limits() -> [(u32, Draft, Pair); 3] {
     let pair = |end, late| Pair { end, late };
+    let early = Draft::of(0, 60, &[(0, 0, 1, 20_000_000)]);
     [
-        (
-            Draft::of(10_000_000, 4, &late),
-            pair(17_680_000, 17_680_000),
-        ),
-        (
-            Draft::of(0, 60, &[(0, 0, 1, 20_000_000)]),
-            pair(1, -19_999_999),
-        ),
+        (MAX_OPENING, latest_book(), pair(17_687_680, 17_687_680)),
+        (0, latest_book(), pair(17_680_000, 17_680_000)),
+        (0, early, pair(1, -19_999_999)),
     ]
+}
+
+/// The most rows of the longest length, released as late as the desk is free, due at 0.
+pub fn latest_book() -> Draft {
+    let rows: Vec<_> = (0..MAX_ROWS as u32)
+        .map(|number| (number, LAST_RELEASE, 2_000, 0))
+        .collect();
+    Draft::of(LAST_RELEASE, 4, &rows)
 }
 
 /// A sorted day of which no two rows cross and no two disagree either.

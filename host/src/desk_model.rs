@@ -1,4 +1,5 @@
-//! A second opinion on the open desk: request L6 as a plain program, upon the model of a book.
+//! A second opinion on the open desk: request L6, with the opening minutes of request L7, as a plain
+//! program upon the model of a book.
 //!
 //! It knows nothing of the words that hold a desk. What is planned on a desk is planned as a day of
 //! the rows left alone that begins at the desk's minute.
@@ -11,9 +12,11 @@ use std::cell::OnceCell;
 /// No row is started later.
 pub const LATEST_START: i64 = 20_000_000;
 
-/// A desk that an opening and starts have left.
+/// A desk that was opened with a book, after some starts.
 #[derive(Clone, Debug)]
 pub struct Desk {
+    /// The opening minutes that it was opened with.
+    pub opening: i64,
     /// All rows that it was opened with.
     pub rows: Vec<Row>,
     /// The numbers of the rows left, from 1, rising.
@@ -26,9 +29,10 @@ pub struct Desk {
 
 impl Desk {
     /// Opens a desk with a book, or says which of the conditions 1 to 8 turns that down.
-    pub fn open(book: &[u32]) -> Result<Desk, Refusal> {
-        let day = Day::read(book)?;
+    pub fn open(opening: u32, book: &[u32]) -> Result<Desk, Refusal> {
+        let day = Day::read(opening, book)?;
         Ok(Desk {
+            opening: day.opening,
             left: (1..=day.rows.len() as u32).collect(),
             minute: day.free,
             rows: day.rows,
@@ -37,7 +41,7 @@ impl Desk {
         })
     }
 
-    /// What an opening answers.
+    /// What is answered where it is opened.
     pub fn opened(&self) -> Opened {
         Opened {
             rows: self.rows.len(),
@@ -63,7 +67,7 @@ impl Desk {
         if minute < self.minute || minute < row.release || minute > LATEST_START {
             return refuse(EARLY, 0);
         }
-        let end = minute + row.length;
+        let end = minute + self.opening + row.length;
         let late = end - row.due;
         let worst = self.worst.map_or(late, |worst| worst.max(late));
         self.left.retain(|&left| left != number);
@@ -80,7 +84,7 @@ impl Desk {
     pub fn rest(&self) -> &Day {
         self.rest.get_or_init(|| {
             let rows = self.left.iter().map(|&number| *self.row(number));
-            Day::of_rows(self.minute, rows.collect())
+            Day::of_rows(self.opening, self.minute, rows.collect())
         })
     }
 
@@ -133,7 +137,7 @@ impl Desk {
         let (mut minute, mut worst) = (self.minute, i64::MIN);
         for &number in order {
             let row = self.row(number);
-            minute = minute.max(row.release) + row.length;
+            minute = minute.max(row.release) + self.opening + row.length;
             worst = worst.max(minute - row.due);
         }
         Pair {

@@ -1,7 +1,7 @@
 //! The planner's calls for Rust, and what they are tested with.
 //!
 //! - [`linked`]: the declarations of the archive and a safe wrapper over them (feature `archive`).
-//! - [`model`]: a second implementation of document 01 with requests L1 to L3 and L5, from these alone.
+//! - [`model`]: a second implementation of document 01 with requests L1 to L3, L5 and L7, from these alone.
 //! - [`desk_model`]: a second open desk of request L6, upon that model.
 //! - [`books`]: a seeded maker of books, sound and damaged.
 
@@ -12,7 +12,10 @@ pub mod linked;
 pub mod model;
 
 /// The version of the boundary, as in `include/jelvaksna.h`.
-pub const VERSION: &str = "1.5";
+pub const VERSION: &str = "2.0";
+
+/// The most opening minutes.
+pub const MAX_OPENING: u32 = 30;
 
 /// The words of an open desk.
 pub const DESK_WORDS: usize = 1_288;
@@ -66,7 +69,7 @@ impl Pair {
     }
 }
 
-/// What an opening answers: the rows of the desk, and its minute.
+/// What is answered where a desk is opened: its rows, and its minute.
 #[derive(Clone, Copy, Debug, PartialEq, Eq)]
 pub struct Opened {
     pub rows: usize,

@@ -1,4 +1,6 @@
 //! The archive's calls: the declarations, each call with its plain answer, and a typed wrapper.
+//!
+//! `opening` is always the minutes that each row takes to open, from 0 to [`crate::MAX_OPENING`].
 
 use crate::{Moved, Opened, Pair, Refusal};
 
@@ -29,12 +31,14 @@ pub mod raw {
 
     extern "C" {
         pub fn jelvaksna_list(
+            opening: u32,
             book: *const u32,
             book_len: usize,
             result: *mut u32,
             result_len: usize,
         ) -> Answer;
         pub fn jelvaksna_order_for_bound(
+            opening: u32,
             book: *const u32,
             book_len: usize,
             bound: i32,
@@ -42,6 +46,7 @@ pub mod raw {
             result_len: usize,
         ) -> Answer;
         pub fn jelvaksna_order_of_plan(
+            opening: u32,
             book: *const u32,
             book_len: usize,
             plan: u32,
@@ -49,6 +54,7 @@ pub mod raw {
             result_len: usize,
         ) -> Answer;
         pub fn jelvaksna_verdict(
+            opening: u32,
             book: *const u32,
             book_len: usize,
             posting: *const u32,
@@ -56,12 +62,14 @@ pub mod raw {
         ) -> Answer;
         pub fn jelvaksna_row_place(book: *const u32, book_len: usize, row: u32) -> Answer;
         pub fn jelvaksna_first_come_list(
+            opening: u32,
             book: *const u32,
             book_len: usize,
             result: *mut u32,
             result_len: usize,
         ) -> Answer;
         pub fn jelvaksna_first_come_order_for_bound(
+            opening: u32,
             book: *const u32,
             book_len: usize,
             bound: i32,
@@ -69,6 +77,7 @@ pub mod raw {
             result_len: usize,
         ) -> Answer;
         pub fn jelvaksna_first_come_order_of_plan(
+            opening: u32,
             book: *const u32,
             book_len: usize,
             plan: u32,
@@ -76,6 +85,7 @@ pub mod raw {
             result_len: usize,
         ) -> Answer;
         pub fn jelvaksna_first_come_verdict(
+            opening: u32,
             book: *const u32,
             book_len: usize,
             posting: *const u32,
@@ -87,6 +97,7 @@ pub mod raw {
             row: u32,
         ) -> Answer;
         pub fn jelvaksna_desk_open(
+            opening: u32,
             book: *const u32,
             book_len: usize,
             desk: *mut u32,
@@ -148,15 +159,29 @@ macro_rules! calls {
         pub mod plain {
             use $crate::linked::{raw, Answer};
 
-            pub fn list(book: &[u32], result: &mut [u32]) -> Answer {
+            pub fn list(opening: u32, book: &[u32], result: &mut [u32]) -> Answer {
                 // SAFETY: both slices are live and aligned for the call, and `result` is lent alone.
-                unsafe { raw::$list(book.as_ptr(), book.len(), result.as_mut_ptr(), result.len()) }
+                unsafe {
+                    raw::$list(
+                        opening,
+                        book.as_ptr(),
+                        book.len(),
+                        result.as_mut_ptr(),
+                        result.len(),
+                    )
+                }
             }
 
-            pub fn order_for_bound(book: &[u32], bound: i32, result: &mut [u32]) -> Answer {
+            pub fn order_for_bound(
+                opening: u32,
+                book: &[u32],
+                bound: i32,
+                result: &mut [u32],
+            ) -> Answer {
                 // SAFETY: as for `list`.
                 unsafe {
                     raw::$order_for_bound(
+                        opening,
                         book.as_ptr(),
                         book.len(),
                         bound,
@@ -166,10 +191,16 @@ macro_rules! calls {
                 }
             }
 
-            pub fn order_of_plan(book: &[u32], plan: u32, result: &mut [u32]) -> Answer {
+            pub fn order_of_plan(
+                opening: u32,
+                book: &[u32],
+                plan: u32,
+                result: &mut [u32],
+            ) -> Answer {
                 // SAFETY: as for `list`.
                 unsafe {
                     raw::$order_of_plan(
+                        opening,
                         book.as_ptr(),
                         book.len(),
                         plan,
@@ -179,9 +210,17 @@ macro_rules! calls {
                 }
             }
 
-            pub fn verdict(book: &[u32], posting: &[u32]) -> Answer {
+            pub fn verdict(opening: u32, book: &[u32], posting: &[u32]) -> Answer {
                 // SAFETY: both slices are live and aligned for the call; neither is written.
-                unsafe { raw::$verdict(book.as_ptr(), book.len(), posting.as_ptr(), posting.len()) }
+                unsafe {
+                    raw::$verdict(
+                        opening,
+                        book.as_ptr(),
+                        book.len(),
+                        posting.as_ptr(),
+                        posting.len(),
+                    )
+                }
             }
 
             pub fn row_place(book: &[u32], row: u32) -> Answer {
@@ -191,27 +230,37 @@ macro_rules! calls {
         }
 
         /// Writes the listed plans, two words each, and gives how many there are.
-        pub fn list(book: &[u32], result: &mut [u32]) -> Result<usize, Refusal> {
-            told(plain::list(book, result), |a| a.count)
+        pub fn list(opening: u32, book: &[u32], result: &mut [u32]) -> Result<usize, Refusal> {
+            told(plain::list(opening, book, result), |a| a.count)
         }
 
         /// Writes the order for a bound, one row number a word, and gives its pair.
         pub fn order_for_bound(
+            opening: u32,
             book: &[u32],
             bound: i32,
             result: &mut [u32],
         ) -> Result<Pair, Refusal> {
-            told(plain::order_for_bound(book, bound, result), pair)
+            told(plain::order_for_bound(opening, book, bound, result), pair)
         }
 
         /// Writes the order of a listed plan, counted from 1, and gives its pair.
-        pub fn order_of_plan(book: &[u32], plan: u32, result: &mut [u32]) -> Result<Pair, Refusal> {
-            told(plain::order_of_plan(book, plan, result), pair)
+        pub fn order_of_plan(
+            opening: u32,
+            book: &[u32],
+            plan: u32,
+            result: &mut [u32],
+        ) -> Result<Pair, Refusal> {
+            told(plain::order_of_plan(opening, book, plan, result), pair)
         }
 
         /// The pair of a posted order, and the first listed plan that beats it.
-        pub fn verdict(book: &[u32], posting: &[u32]) -> Result<(Pair, Option<usize>), Refusal> {
-            told(plain::verdict(book, posting), |a| {
+        pub fn verdict(
+            opening: u32,
+            book: &[u32],
+            posting: &[u32],
+        ) -> Result<(Pair, Option<usize>), Refusal> {
+            told(plain::verdict(opening, book, posting), |a| {
                 (pair(a), (a.count != 0).then_some(a.count))
             })
         }
@@ -222,10 +271,10 @@ macro_rules! calls {
         }
 
         /// The listed plans as pairs.
-        pub fn plans(book: &[u32]) -> Result<Vec<Pair>, Refusal> {
+        pub fn plans(opening: u32, book: &[u32]) -> Result<Vec<Pair>, Refusal> {
             // Two words for each row: a book's rows take four words each.
             let mut result = vec![0; book.len() / 2];
-            let count = list(book, &mut result)?;
+            let count = list(opening, book, &mut result)?;
             Ok(pairs(&result[..2 * count]))
         }
     };
@@ -262,10 +311,16 @@ pub mod desk {
     pub mod plain {
         use crate::linked::{raw, Answer};
 
-        pub fn open(book: &[u32], desk: &mut [u32]) -> Answer {
+        pub fn open(opening: u32, book: &[u32], desk: &mut [u32]) -> Answer {
             // SAFETY: both slices are live and aligned for the call, and `desk` is lent alone.
             unsafe {
-                raw::jelvaksna_desk_open(book.as_ptr(), book.len(), desk.as_mut_ptr(), desk.len())
+                raw::jelvaksna_desk_open(
+                    opening,
+                    book.as_ptr(),
+                    book.len(),
+                    desk.as_mut_ptr(),
+                    desk.len(),
+                )
             }
         }
 
@@ -300,9 +355,10 @@ pub mod desk {
         }
     }
 
-    /// Fills a desk from a book, and gives the count of rows and the desk's minute.
-    pub fn open(book: &[u32], desk: &mut [u32]) -> Result<Opened, Refusal> {
-        told(plain::open(book, desk), |a| Opened {
+    /// Fills a desk from a book, which keeps the opening minutes, and gives the count of rows and the
+    /// desk's minute.
+    pub fn open(opening: u32, book: &[u32], desk: &mut [u32]) -> Result<Opened, Refusal> {
+        told(plain::open(opening, book, desk), |a| Opened {
             rows: a.count,
             minute: a.minute,
         })

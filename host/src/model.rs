@@ -1,12 +1,12 @@
 //! A second opinion: document 01 with the classes of request L1, the rows as they arrive of
-//! request L2, the nearest minute of request L3 and the profile of request L5 as a plain program,
-//! written from these papers and from nothing else.
+//! request L2, the nearest minute of request L3, the profile of request L5 and the opening minutes of
+//! request L7 as a plain program, written from these papers and from nothing else.
 //!
 //! It keeps their sequence of tests and their words (desk, picks, run, blocks), calculates in
 //! 64 bits, and looks for nothing faster than plain scans.
 
 use crate::refusal::*;
-use crate::{Pair, Profile, Refusal};
+use crate::{Pair, Profile, Refusal, MAX_OPENING};
 use std::cell::OnceCell;
 use std::fmt::Write;
 
@@ -60,10 +60,11 @@ impl Row {
     }
 }
 
-/// An accepted book: the desk's free minute and the table.
+/// An accepted book: the desk's free minute and the table; and the minutes that each row takes to open.
 #[derive(Clone, Debug)]
 pub struct Day {
     profile: Profile,
+    pub opening: i64,
     pub free: i64,
     pub rows: Vec<Row>,
     listed: OnceCell<Vec<Pair>>,
@@ -167,23 +168,27 @@ impl Day {
     }
 
     /// Reads a book, or says which of the conditions 1 to 8 turns it down.
-    pub fn read(book: &[u32]) -> Result<Day, Refusal> {
-        Day::read_as(Profile::OrderingRule, book)
+    pub fn read(opening: u32, book: &[u32]) -> Result<Day, Refusal> {
+        Day::read_as(Profile::OrderingRule, opening, book)
     }
 
-    /// Reads a book by the rule of a profile.
-    pub fn read_as(profile: Profile, book: &[u32]) -> Result<Day, Refusal> {
+    /// Reads a book by the rule of a profile. The opening is looked at before the book.
+    pub fn read_as(profile: Profile, opening: u32, book: &[u32]) -> Result<Day, Refusal> {
+        if opening > MAX_OPENING {
+            return refuse(RANGE, 0);
+        }
         let (free, rows) = Day::table(book)?;
         match profile {
             Profile::OrderingRule => pair_test(&rows, DISORDER, Row::disagrees)?,
             Profile::FirstCome => pair_test(&rows, CROSSED, Row::crosses)?,
         }
-        Ok(Day::of(profile, free, rows))
+        Ok(Day::of(profile, opening.into(), free, rows))
     }
 
-    fn of(profile: Profile, free: i64, rows: Vec<Row>) -> Day {
+    fn of(profile: Profile, opening: i64, free: i64, rows: Vec<Row>) -> Day {
         Day {
             profile,
+            opening,
             free,
             rows,
             listed: OnceCell::new(),
@@ -191,8 +196,8 @@ impl Day {
     }
 
     /// Rows of an accepted book, from any minute on.
-    pub fn of_rows(free: i64, rows: Vec<Row>) -> Day {
-        Day::of(Profile::OrderingRule, free, rows)
+    pub fn of_rows(opening: i64, free: i64, rows: Vec<Row>) -> Day {
+        Day::of(Profile::OrderingRule, opening, free, rows)
     }
 
     /// Whether any row has a class.
@@ -231,6 +236,7 @@ fn place_of_row(row: usize) -> usize {
 /// A desk at work: what is done, what is left, and the worst lateness so far.
 #[derive(Clone)]
 struct Desk<'d> {
+    opening: i64,
     rows: &'d [Row],
     minute: i64,
     /// Indices of the rows left over, rising.
@@ -243,6 +249,7 @@ struct Desk<'d> {
 impl<'d> Desk<'d> {
     fn new(day: &'d Day) -> Self {
         Desk {
+            opening: day.opening,
             rows: &day.rows,
             minute: day.free,
             left: (0..day.rows.len()).collect(),
@@ -278,9 +285,9 @@ impl<'d> Desk<'d> {
         (first.3, second.map(|rank| rank.3))
     }
 
-    /// Does a row next; its lateness.
+    /// Does a row next, which takes opening plus length; its lateness.
     fn take(&mut self, row: usize) -> i64 {
-        self.minute = self.ready(row) + self.rows[row].length;
+        self.minute = self.ready(row) + self.opening + self.rows[row].length;
         self.left.retain(|&other| other != row);
         self.done.push(row);
         let late = self.minute - self.rows[row].due;
@@ -407,7 +414,7 @@ impl Day {
             }
             for (i, row) in day.rows.iter().enumerate() {
                 if left & 1 << i != 0 {
-                    let end = minute.max(row.release) + row.length;
+                    let end = minute.max(row.release) + day.opening + row.length;
                     go(day, left & !(1 << i), end, worst.max(end - row.due), pairs);
                 }
             }
@@ -502,24 +509,39 @@ impl Day {
 
 // ---- The calls on a lent book ----
 
-pub fn list(book: &[u32], result: &mut [u32]) -> Result<usize, Refusal> {
-    Day::read(book)?.list_into(result)
+pub fn list(opening: u32, book: &[u32], result: &mut [u32]) -> Result<usize, Refusal> {
+    Day::read(opening, book)?.list_into(result)
 }
 
-pub fn order_for_bound(book: &[u32], bound: i32, result: &mut [u32]) -> Result<Pair, Refusal> {
-    Day::read(book)?.order_for_bound_into(bound, result)
+pub fn order_for_bound(
+    opening: u32,
+    book: &[u32],
+    bound: i32,
+    result: &mut [u32],
+) -> Result<Pair, Refusal> {
+    Day::read(opening, book)?.order_for_bound_into(bound, result)
 }
 
-pub fn order_of_plan(book: &[u32], plan: u32, result: &mut [u32]) -> Result<Pair, Refusal> {
-    Day::read(book)?.order_of_plan_into(plan, result)
+pub fn order_of_plan(
+    opening: u32,
+    book: &[u32],
+    plan: u32,
+    result: &mut [u32],
+) -> Result<Pair, Refusal> {
+    Day::read(opening, book)?.order_of_plan_into(plan, result)
 }
 
-pub fn verdict(book: &[u32], posting: &[u32]) -> Result<(Pair, Option<usize>), Refusal> {
-    Day::read(book)?.verdict(posting)
+pub fn verdict(
+    opening: u32,
+    book: &[u32],
+    posting: &[u32],
+) -> Result<(Pair, Option<usize>), Refusal> {
+    Day::read(opening, book)?.verdict(posting)
 }
 
-pub fn row_place(book: &[u32], row: u32) -> Result<usize, Refusal> {
-    Day::read(book)?.row_place(row)
+/// Works out no ends, so it is told no opening.
+pub fn row_place(profile: Profile, book: &[u32], row: u32) -> Result<usize, Refusal> {
+    Day::read_as(profile, 0, book)?.row_place(row)
 }
 
 // ---- What slate prints ----
@@ -535,9 +557,9 @@ pub fn slate_words(input: &[u8]) -> Result<Vec<u32>, Refusal> {
         .collect())
 }
 
-/// All that `slate` prints for this standard input.
+/// All that `slate` prints for this standard input, with no opening minutes.
 pub fn slate(input: &[u8]) -> String {
-    let day = match slate_words(input).and_then(|book| Day::read(&book)) {
+    let day = match slate_words(input).and_then(|book| Day::read(0, &book)) {
         Ok(day) => day,
         Err(Refusal { number, place }) => return format!("refused {number} at {place}\n"),
     };

@@ -6,22 +6,23 @@
 mod common;
 
 use common::{calls, compare, each_call, Call, Case, Effort};
-use jelvaksna::books::{self, Draft, Rng};
+use jelvaksna::books::{self, Draft, Rng, OPENINGS, REFUSED_OPENINGS};
 use jelvaksna::model::{Day, MAX_ROWS};
+use jelvaksna::refusal::{CUT, RANGE, UNLISTED};
 use jelvaksna::{linked, word, Pair, Profile, Refusal};
 
 fn books(
     test: &'static str,
     count: u64,
     effort: Effort,
-    make: impl FnMut(&mut Rng, u64) -> Vec<u32>,
+    make: impl FnMut(&mut Rng, Case) -> Vec<u32>,
 ) {
     each_call(Profile::OrderingRule, test, count, effort, make, compare);
 }
 
 /// All the calls that suit one book.
 fn compare_all(case: Case, book: &[u32], effort: Effort) {
-    let day = Day::read(book);
+    let day = case.read(book);
     for call in calls(&mut case.rng(), &day, effort) {
         compare(case, book, &day, &call);
     }
@@ -30,52 +31,53 @@ fn compare_all(case: Case, book: &[u32], effort: Effort) {
 #[test]
 fn short_books() {
     let count = 8_000 * books::times();
-    books("short books", count, Effort::All, |rng, _| {
+    books("short books", count, Effort::All, |rng, case| {
         let rows = 1 + rng.below(12);
-        books::accepted(rng, rows).words()
+        books::accepted(rng, case.accepted_opening(), rows).words()
     });
 }
 
 #[test]
 fn middling_books() {
     let count = 800 * books::times();
-    books("middling books", count, Effort::All, |rng, _| {
+    books("middling books", count, Effort::All, |rng, case| {
         let rows = rng.range(13, 48) as usize;
-        books::accepted(rng, rows).words()
+        books::accepted(rng, case.accepted_opening(), rows).words()
     });
 }
 
 #[test]
 fn long_books() {
     let count = 120 * books::times();
-    books("long books", count, Effort::Few, |rng, i| {
-        books::long(rng, i).words()
+    books("long books", count, Effort::Few, |rng, case| {
+        books::long(rng, case.accepted_opening(), case.case).words()
     });
 }
 
 #[test]
 fn books_with_a_plan_for_each_row() {
     // Each day as it is, then unsorted and in a class.
-    let day = |rng: &mut Rng, rows: usize, i: u64| match i % 2 {
-        0 => books::many_plans(rows),
-        _ => books::many_plans(rows)
-            .of_class(i as u32 / 2 % 8)
-            .shuffled(rng),
+    let day = |rng: &mut Rng, case: Case, rows: usize| {
+        let day = books::many_plans(case.accepted_opening(), rows);
+        match case.case % 2 {
+            0 => day,
+            _ => day.of_class(case.case as u32 / 2 % 8).shuffled(rng),
+        }
     };
-    books("many plans", 48, Effort::All, |rng, i| {
-        day(rng, i as usize / 2 + 2, i).words()
+    books("many plans", 96, Effort::All, |rng, case| {
+        day(rng, case, case.case as usize / 4 + 2).words()
     });
     let long = [64, 100, MAX_ROWS];
-    books("very many plans", 6, Effort::Few, |rng, i| {
-        day(rng, long[i as usize / 2], i).words()
+    books("very many plans", 12, Effort::Few, |rng, case| {
+        day(rng, case, long[case.case as usize / 4]).words()
     });
 }
 
 #[test]
 fn disagreeing_books() {
     let count = 6_000 * books::times();
-    books("disagreeing books", count, Effort::Few, |rng, i| {
-        let rows = match i % 50 {
+    books("disagreeing books", count, Effort::Few, |rng, case| {
+        let rows = match case.case % 50 {
             0 => MAX_ROWS,
             _ => 2 + rng.below(39),
         };
@@ -86,9 +88,9 @@ fn disagreeing_books() {
 #[test]
 fn damaged_books() {
     let count = 40_000 * books::times();
-    books("damaged books", count, Effort::Few, |rng, _| {
+    books("damaged books", count, Effort::Few, |rng, case| {
         let rows = 1 + rng.below(10);
-        let book = books::accepted(rng, rows).words();
+        let book = books::accepted(rng, case.accepted_opening(), rows).words();
         books::damaged(rng, &book)
     });
 }
@@ -96,13 +98,13 @@ fn damaged_books() {
 #[test]
 fn damaged_long_books() {
     let count = 1_500 * books::times();
-    books("damaged long books", count, Effort::Few, |rng, i| {
-        let rows = if i % 4 == 0 {
-            MAX_ROWS
-        } else {
-            1 + rng.below(MAX_ROWS)
+    books("damaged long books", count, Effort::Few, |rng, case| {
+        let rows = match case.case % 4 {
+            0 => MAX_ROWS,
+            _ => 1 + rng.below(MAX_ROWS),
         };
-        let book = books::typical_day(rng, rows).varied(rng).words();
+        let day = books::typical_day(rng, case.accepted_opening(), rows);
+        let book = day.varied(rng).words();
         books::damaged(rng, &book)
     });
 }
@@ -145,7 +147,7 @@ fn every_place() {
     };
     for day in [dues, classes, between] {
         let sound = day.words();
-        assert!(Day::read(&sound).is_ok());
+        assert!(Day::read(0, &sound).is_ok());
         for at in 0..sound.len() {
             for kind in 0..8 {
                 for &value in &values {
@@ -158,7 +160,7 @@ fn every_place() {
             }
         }
     }
-    let full = books::typical_day(&mut Rng::new(1), MAX_ROWS);
+    let full = books::typical_day(&mut Rng::new(1), 0, MAX_ROWS);
     for full in [full.clone().of_class(3).words(), full.words()] {
         for len in 0..=full.len() {
             check(&full[..len]);
@@ -221,8 +223,10 @@ fn every_class() {
                 compare_all(Case::new(test, made), &day.words(), Effort::All);
                 made += 1;
             }
-            let plans = linked::plans(&one.words()).unwrap();
-            assert_eq!(plans[0].late as i64, plans[0].end as i64 - due);
+            for opening in OPENINGS {
+                let plans = linked::plans(opening, &one.words()).unwrap();
+                assert_eq!(plans[0].late as i64, plans[0].end as i64 - due);
+            }
         }
     }
     println!("{test}: {made} books");
@@ -233,13 +237,13 @@ fn every_class() {
 fn every_number() {
     let test = "every number";
     for i in 0..40 {
-        let case = Case::new(test, i);
+        let case = Case::new(test, i).accepted();
         let mut rng = case.rng();
         let rows = 1 + rng.below(30);
-        let book = books::several_plans(&mut rng, rows)
+        let book = books::several_plans(&mut rng, case.opening, rows)
             .varied(&mut rng)
             .words();
-        let day = Day::read(&book);
+        let day = case.read(&book);
         let read = day.as_ref().expect("accepted");
         let (rows, plans) = (read.rows.len(), read.list().to_vec());
         for row in 0..rows as u32 + 3 {
@@ -294,18 +298,20 @@ fn worked_days() {
         Draft::of(0, 40, &[(1, 1, 1, 0), (2, 0, 7, 0)]).of_class(1),
     ];
     for (i, draft) in days.iter().enumerate() {
-        let case = Case::new("worked days", i as u64);
-        let book = draft.words();
-        let day = Day::read(&book);
-        compare_all(case, &book, Effort::All);
-        for bound in -3..20 {
-            for len in 0..5 {
-                compare(case, &book, &day, &Call::OrderForBound { bound, len });
+        for opening in OPENINGS.into_iter().chain(REFUSED_OPENINGS) {
+            let case = Case::new("worked days", i as u64).with_opening(opening);
+            let book = draft.words();
+            let day = case.read(&book);
+            compare_all(case, &book, Effort::All);
+            for bound in -3..20 {
+                for len in 0..5 {
+                    compare(case, &book, &day, &Call::OrderForBound { bound, len });
+                }
             }
-        }
-        for posting in [[1, 2, 3], [2, 1, 3], [3, 2, 1], [1, 1, 2], [1, 2, 4]] {
-            let posting = posting.to_vec();
-            compare(case, &book, &day, &Call::Verdict { posting });
+            for posting in [[1, 2, 3], [2, 1, 3], [3, 2, 1], [1, 1, 2], [1, 2, 4]] {
+                let posting = posting.to_vec();
+                compare(case, &book, &day, &Call::Verdict { posting });
+            }
         }
     }
 }
@@ -319,7 +325,7 @@ fn every_length() {
             let case = Case::new("every length", rows);
             let day = Draft::of(0, pace, &[(1, 5, pages, 7)]);
             for book in [day.words(), day.of_class(0).words()] {
-                compare(case, &book, &Day::read(&book), &Call::List { len: 2 });
+                compare(case, &book, &case.read(&book), &Call::List { len: 2 });
             }
             rows += 1;
         }
@@ -330,44 +336,47 @@ fn every_length() {
 /// The latest end and lateness that a book can have, and the earliest work.
 #[test]
 fn limits() {
-    for (i, (draft, pair)) in books::at_the_limits().into_iter().enumerate() {
-        let case = Case::new("limits", i as u64);
+    for (i, (opening, draft, pair)) in books::at_the_limits().into_iter().enumerate() {
+        let case = Case::new("limits", i as u64).with_opening(opening);
         let book = draft.words();
-        let day = Day::read(&book);
-        assert_eq!(day.as_ref().unwrap().list(), [pair]);
-        for call in calls(&mut case.rng(), &day, Effort::All) {
-            compare(case, &book, &day, &call);
-        }
+        assert_eq!(case.read(&book).unwrap().list(), [pair]);
+        compare_all(case, &book, Effort::All);
     }
 }
 
-/// The typed wrapper on the first worked day.
+/// The typed wrapper on the first worked day, with no opening minutes and with some.
 #[test]
 fn the_wrapper() {
     let rows = [(901, 1, 1, 5), (902, 0, 10, 12)];
     let book = Draft::of(0, 60, &rows).words();
     let pair = |end, late| Pair { end, late };
-    let plans = linked::plans(&book).unwrap();
+    let refusal = |number, place| Refusal { number, place };
+    let plans = linked::plans(0, &book).unwrap();
     assert_eq!(plans, [pair(11, 6), pair(12, 0)]);
     let mut order = [0; 2];
-    let given = linked::order_for_bound(&book, 5, &mut order);
+    let given = linked::order_for_bound(0, &book, 5, &mut order);
     assert_eq!((given, order), (Ok(pair(12, 0)), [1, 2]));
-    let given = linked::order_of_plan(&book, 1, &mut order);
+    let given = linked::order_of_plan(0, &book, 1, &mut order);
     assert_eq!((given, order), (Ok(pair(11, 6)), [2, 1]));
-    assert_eq!(linked::verdict(&book, &[1, 2]), Ok((pair(12, 0), None)));
+    assert_eq!(linked::verdict(0, &book, &[1, 2]), Ok((pair(12, 0), None)));
+
+    // Each row takes 3 minutes more: 0 to 13 to 17, or 1 to 5 to 18.
+    let plans = linked::plans(3, &book).unwrap();
+    assert_eq!(plans, [pair(17, 12), pair(18, 6)]);
+    let given = linked::order_for_bound(3, &book, 11, &mut order);
+    assert_eq!((given, order), (Ok(pair(18, 6)), [1, 2]));
+    let given = linked::order_of_plan(3, &book, 1, &mut order);
+    assert_eq!((given, order), (Ok(pair(17, 12)), [2, 1]));
+    assert_eq!(linked::verdict(3, &book, &[1, 2]), Ok((pair(18, 6), None)));
+    assert_eq!(linked::plans(31, &book), Err(refusal(RANGE, 0)));
+    assert_eq!(linked::plans(31, &[]), Err(refusal(RANGE, 0)));
+
     let words = linked::row_words(&book, 2).unwrap();
     assert!(std::ptr::eq(words, &book[6..10]));
     let classes = Draft::of(0, 60, &rows).of_class(0).words();
-    let plans = linked::plans(&classes).unwrap();
+    let plans = linked::plans(0, &classes).unwrap();
     assert_eq!(plans, [pair(11, -51), pair(12, -58)]);
     assert_eq!(linked::row_words(&classes, 2).unwrap()[3], word(0, 0));
-    let unlisted = Refusal {
-        number: jelvaksna::refusal::UNLISTED,
-        place: 2,
-    };
-    assert_eq!(linked::row_words(&book, 3), Err(unlisted));
-    assert_eq!(
-        linked::plans(&[]).unwrap_err().number,
-        jelvaksna::refusal::CUT
-    );
+    assert_eq!(linked::row_words(&book, 3), Err(refusal(UNLISTED, 2)));
+    assert_eq!(linked::plans(0, &[]), Err(refusal(CUT, 0)));
 }

@@ -10,13 +10,13 @@ mod kit;
 
 use common::fence::{Fences, Side};
 use common::{fault, filled, of_pair, refused, spelled, told, Case};
-use jelvaksna::books::{self, Draft, Rng};
+use jelvaksna::books::{self, Draft, Rng, OPENINGS, REFUSED_OPENINGS};
 use jelvaksna::desk_model::{Desk, LATEST_START};
 use jelvaksna::linked::desk::{self, plain};
 use jelvaksna::linked::Answer;
 use jelvaksna::model::MAX_ROWS;
 use jelvaksna::refusal::{DONE, EARLY, NARROW, RANGE, UNLISTED};
-use jelvaksna::{Moved, Opened, Pair, Refusal, DESK_WORDS};
+use jelvaksna::{Moved, Opened, Pair, Refusal, DESK_WORDS, MAX_OPENING};
 use kit::Counts;
 
 /// One call on an open desk. `len` is the length of the result buffer.
@@ -78,13 +78,13 @@ impl Call {
     }
 }
 
-/// What an opening of a run with a book gives by the model, but for the words of the desk.
-fn opening(book: &[u32], len: usize) -> (Answer, Option<Desk>) {
+/// What a run that is opened with a book gives by the model, but for the words of the desk.
+fn opened_by_model(opening: u32, book: &[u32], len: usize) -> (Answer, Option<Desk>) {
     let narrow = Refusal {
         number: NARROW,
         place: 0,
     };
-    match Desk::open(book) {
+    match Desk::open(opening, book) {
         Err(refusal) => (refused(refusal), None),
         Ok(_) if len < DESK_WORDS => (refused(narrow), None),
         Ok(desk) => {
@@ -99,9 +99,10 @@ fn opening(book: &[u32], len: usize) -> (Answer, Option<Desk>) {
     }
 }
 
-/// The archive's opening of a run with a book: the answer, and the run after it.
-fn opened(fences: &mut Fences, side: Side, book: &[u32], run: &[u32]) -> Outcome {
-    let (answer, after, spilt) = fences.lend(side, book, &[], run, |b, _, d| plain::open(b, d));
+/// A run that the archive opens with a book: the answer, and the run after it.
+fn opened(fences: &mut Fences, side: Side, opening: u32, book: &[u32], run: &[u32]) -> Outcome {
+    let open = |b: &[u32], _: &[u32], d: &mut [u32]| plain::open(opening, b, d);
+    let (answer, after, spilt) = fences.lend(side, book, &[], run, open);
     assert!(!spilt, "open: a word beside the desk was changed");
     (answer, after)
 }
@@ -119,24 +120,25 @@ struct Series<'f> {
 }
 
 impl<'f> Series<'f> {
-    /// Opens both with an accepted book, the archive's in a run of so many words more than it needs.
+    /// Opens both with an accepted book and the case's opening minutes, the archive's in a run of so
+    /// many words more than it needs.
     fn open(case: Case, fences: &'f mut Fences, book: Vec<u32>, more: usize) -> Self {
         fault::watch(case, &book);
         let run = filled(DESK_WORDS + more);
-        let (want, model) = opening(&book, run.len());
-        let (have, words) = opened(fences, Side::End, &book, &run);
+        let (want, model) = opened_by_model(case.opening, &book, run.len());
+        let (have, words) = opened(fences, Side::End, case.opening, &book, &run);
         let series = Series {
             case,
             fences,
             book,
             words,
-            model: model.expect("an accepted book"),
+            model: model.expect("an accepted book and opening"),
             calls: Vec::new(),
             accepted: Vec::new(),
         };
-        series.hold(have == want, || format!("opening: {want:?}, {have:?}"));
+        series.hold(have == want, || format!("opened: {want:?}, {have:?}"));
         let same = series.words[DESK_WORDS..] == run[DESK_WORDS..];
-        series.hold(same, || "opening: words after the desk".to_string());
+        series.hold(same, || "opened: words after the desk".to_string());
         series
     }
 
@@ -183,7 +185,8 @@ impl<'f> Series<'f> {
     /// The desk is, word for word, one opened anew on which the accepted starts alone were called.
     fn settle(&mut self) {
         let other = vec![u32::MAX; DESK_WORDS];
-        let (_, mut anew) = opened(self.fences, Side::Start, &self.book, &other);
+        let (side, opening) = (Side::Start, self.case.opening);
+        let (_, mut anew) = opened(self.fences, side, opening, &self.book, &other);
         for &(row, minute) in &self.accepted {
             assert_eq!(plain::start(&mut anew, row, minute).refusal, 0);
         }
@@ -321,18 +324,19 @@ fn count(counts: &mut Counts, call: Call, answer: Answer, desk: &Desk) {
     }
 }
 
-/// Opens desks with made books and makes calls by chance on each.
+/// Opens desks with made books and makes calls by chance on each. The maker is told the opening minutes.
 fn series(
     test: &'static str,
     number: u64,
-    make: impl Fn(&mut Rng, u64) -> Draft,
+    make: impl Fn(&mut Rng, u32, u64) -> Draft,
     calls: impl Fn(usize) -> usize,
 ) -> Counts {
     let (mut fences, mut counts) = (Fences::new(), Counts::default());
     for i in 0..number {
-        let case = Case::new(test, i);
+        let case = Case::new(test, i).accepted();
         let mut rng = case.rng();
-        let day = make(&mut rng, i);
+        let day = make(&mut rng, case.opening, i);
+        counts.add_if(case.opening > 0, "with opening minutes");
         let more = rng.pick(&[0, 0, 1, 40]);
         let manner = rng.pick(&[Manner::Any, Manner::Steady]);
         let mut series = Series::open(case, &mut fences, day.words(), more);
@@ -367,22 +371,23 @@ fn came_up(counts: &Counts, often: usize) {
 
 #[test]
 fn short_desks() {
-    let make = |rng: &mut Rng, _| {
+    let make = |rng: &mut Rng, opening, _| {
         let rows = 1 + rng.below(12);
-        books::accepted(rng, rows)
+        books::accepted(rng, opening, rows)
     };
     let number = 4_000 * books::times();
     let counts = series("short desks", number, make, |rows| 4 + 3 * rows);
     came_up(&counts, 2_000);
     counts.at_least(100, "list of no row");
     counts.at_least(100, "list past the latest start");
+    counts.at_least(2_000, "with opening minutes");
 }
 
 #[test]
 fn middling_desks() {
-    let make = |rng: &mut Rng, _| {
+    let make = |rng: &mut Rng, opening, _| {
         let rows = rng.range(13, 48) as usize;
-        books::accepted(rng, rows)
+        books::accepted(rng, opening, rows)
     };
     let number = 300 * books::times();
     let counts = series("middling desks", number, make, |rows| 2 * rows);
@@ -391,25 +396,25 @@ fn middling_desks() {
 
 #[test]
 fn long_desks() {
-    let make = books::long;
     let number = 40 * books::times();
-    let counts = series("long desks", number, make, |_| 80);
+    let counts = series("long desks", number, books::long, |_| 80);
     came_up(&counts, 40);
 }
 
 /// Days with a plan for each row, as they are, then unsorted and in a class.
 #[test]
 fn desks_of_many_plans() {
-    let day = |rng: &mut Rng, rows: usize, i: u64| match i % 2 {
-        0 => books::many_plans(rows),
-        _ => books::many_plans(rows)
+    let day = |rng: &mut Rng, opening, rows: usize, i: u64| match i % 2 {
+        0 => books::many_plans(opening, rows),
+        _ => books::many_plans(opening, rows)
             .of_class(i as u32 / 2 % 8)
             .shuffled(rng),
     };
-    let make = |rng: &mut Rng, i: u64| day(rng, 2 + i as usize % 40, i / 40);
+    let make = |rng: &mut Rng, opening, i: u64| day(rng, opening, 2 + i as usize % 40, i / 40);
     let counts = series("many plans", 160 * books::times(), make, |rows| 6 + rows);
     counts.at_least(150, "list of several plans after a start");
-    let make = |rng: &mut Rng, i: u64| day(rng, [64, 100, MAX_ROWS][i as usize / 2], i);
+    let rows = [64, 100, MAX_ROWS];
+    let make = |rng: &mut Rng, opening, i: u64| day(rng, opening, rows[i as usize / 2], i);
     series("very many plans", 6, make, |_| 12);
 }
 
@@ -420,9 +425,10 @@ fn to_the_last_row() {
     let mut fences = Fences::new();
     let lengths = (1..=16).chain([40, 100, 255, 256]);
     for (i, rows) in lengths.cycle().take(60).enumerate() {
-        let case = Case::new("to the last row", i as u64);
+        let case = Case::new("to the last row", i as u64).accepted();
         let mut rng = case.rng();
-        let book = books::typical_day(&mut rng, rows).varied(&mut rng).words();
+        let day = books::typical_day(&mut rng, case.opening, rows);
+        let book = day.varied(&mut rng).words();
         let mut series = Series::open(case, &mut fences, book, i % 2);
         for left in (1..=rows).rev() {
             series.call(Call::List { len: 2 * left });
@@ -478,13 +484,13 @@ fn covers_the_rest(series: &mut Series) {
 fn every_order_of_the_rest() {
     let (mut fences, mut states, mut several) = (Fences::new(), 0, 0);
     for i in 0..900 * books::times() {
-        let case = Case::new("every order of the rest", i);
+        let case = Case::new("every order of the rest", i).accepted();
         let mut rng = case.rng();
         let rows = 1 + rng.below(6);
         let day = match i % 3 {
-            0 if rows > 1 => books::many_plans(rows).shuffled(&mut rng),
-            1 => books::several_plans(&mut rng, rows).varied(&mut rng),
-            _ => books::accepted(&mut rng, rows),
+            0 if rows > 1 => books::many_plans(case.opening, rows).shuffled(&mut rng),
+            1 => books::several_plans(&mut rng, case.opening, rows).varied(&mut rng),
+            _ => books::accepted(&mut rng, case.opening, rows),
         };
         let mut series = Series::open(case, &mut fences, day.words(), 0);
         while !series.model.left.is_empty() {
@@ -505,18 +511,19 @@ fn every_order_of_the_rest() {
     assert!(several > 100);
 }
 
-// ---- Openings ----
+// ---- Desks that are opened ----
 
-/// Books sound and damaged, runs of every length: a refused opening leaves every word; an accepted one
-/// leaves nothing of what the run held, and the words after the desk.
+/// Books sound and damaged, opening minutes accepted and refused, runs of every length: a run that is
+/// refused keeps every word; one that is opened keeps nothing of what it held, and the words after the
+/// desk.
 #[test]
-fn openings() {
+fn runs_that_are_opened() {
     let (mut fences, mut counts) = (Fences::new(), Counts::default());
     for i in 0..3_000 * books::times() {
-        let case = Case::new("openings", i);
+        let case = Case::new("runs that are opened", i);
         let mut rng = case.rng();
         let rows = books::some_rows(&mut rng, MAX_ROWS);
-        let sound = books::accepted(&mut rng, rows).words();
+        let sound = books::accepted(&mut rng, case.accepted_opening(), rows).words();
         let book = match i % 6 {
             0 => books::damaged(&mut rng, &sound),
             1 => books::disagreeing(&mut rng, rows.max(2)).words(),
@@ -528,20 +535,22 @@ fn openings() {
         let len = rng.pick(&[0, 1, any, 1287, 1288, 1288, 1289, 1300, 2_000]);
         let mut desks = Vec::new();
         for (side, run) in [(Side::End, filled(len)), (Side::Start, vec![u32::MAX; len])] {
-            let (want, model) = opening(&book, len);
-            let (have, after) = opened(&mut fences, side, &book, &run);
-            assert_eq!(have, want, "case {i}, a run of {len}, {}", spelled(&book));
+            let (want, model) = opened_by_model(case.opening, &book, len);
+            let (have, after) = opened(&mut fences, side, case.opening, &book, &run);
+            assert_eq!(have, want, "{case:?}, a run of {len}, {}", spelled(&book));
             counts.add(format!("open {}", have.refusal));
+            counts.add_if(case.opening > MAX_OPENING, "refused for the opening");
             let kept = if model.is_some() { DESK_WORDS } else { 0 };
             assert_eq!(after[kept..], run[kept..], "case {i}, a run of {len}");
             desks.push(after[..kept].to_vec());
         }
         assert_eq!(desks[0], desks[1], "case {i}");
     }
-    println!("openings: {:?}", counts.0);
+    println!("runs that are opened: {:?}", counts.0);
     for number in [0, 1, 2, 8, NARROW] {
         counts.at_least(60, format!("open {number}"));
     }
+    counts.at_least(300, "refused for the opening");
 }
 
 // ---- Runs that are no desk ----
@@ -600,13 +609,15 @@ fn stays_within(case: Case, fences: &mut Fences, words: &[u32], call: Call) -> u
     number
 }
 
-/// The words of a desk that an opening and some starts have left.
+/// The words of a desk that was opened, after some starts.
 fn some_desk(rng: &mut Rng) -> Vec<u32> {
+    let opening = rng.pick(&OPENINGS);
     let rows = books::some_rows(rng, MAX_ROWS);
-    let book = books::accepted(rng, rows).words();
+    let book = books::accepted(rng, opening, rows).words();
     let mut words = vec![0; DESK_WORDS];
-    let mut model = Desk::open(&book).expect("accepted");
-    assert_eq!(desk::open(&book, &mut words), Ok(model.opened()));
+    let mut model = Desk::open(opening, &book).expect("accepted");
+    let told = desk::open(opening, &book, &mut words);
+    assert_eq!(told, Ok(model.opened()));
     for _ in 0..rng.below(rows.min(8) + 1) {
         let row = rng.pick(&model.left);
         let minute = model.minute.max(model.row(row).release) as u32;
@@ -633,7 +644,10 @@ fn some_run(rng: &mut Rng, i: u64) -> Vec<u32> {
         };
         let (old, other) = (words[at], words[rng.below(DESK_WORDS)]);
         let step = rng.pick(&[1, 2, 60]);
-        let telling = [0, 1, 2, 256, 257, 30_000, 30_001, 10_000_001, 20_030_001];
+        let telling = [
+            0, 1, 2, 30, 31, 256, 257, 30_000, 30_001, 30_030, 30_031, 10_000_001, 20_030_030,
+            20_030_031,
+        ];
         words[at] = match rng.below(6) {
             0 => rng.next() as u32,
             1 => old.wrapping_add(step),
@@ -690,28 +704,79 @@ fn short_and_plain_runs() {
 
 /// A start at the latest minute: then no row can be started, and the list and its orders go on, up to
 /// the latest end and lateness that a desk can have.
-#[test]
-fn past_the_latest_start() {
+fn past_the_latest_start(opening: u32, stand: u32, end: u32) {
     let mut fences = Fences::new();
-    let case = Case::new("past the latest start", 0);
-    let rows: Vec<_> = (0..256).map(|i| (i, 10_000_000, 2_000, 0)).collect();
-    let book = Draft::of(10_000_000, 4, &rows).words();
+    let case = Case::new("past the latest start", 0).with_opening(opening);
+    let book = books::latest_book().words();
     let mut series = Series::open(case, &mut fences, book, 3);
     let (latest, row) = (LATEST_START as u32, 77);
     let start = |minute| Call::Start { row, minute };
     assert_eq!(series.call(start(latest + 1)).refusal, EARLY);
     let answer = series.call(start(latest));
-    assert_eq!((answer.minute, answer.late), (20_030_000, 20_030_000));
-    for minute in [0, latest, latest + 1, 20_029_999, 20_030_000, 20_030_001] {
+    assert_eq!((answer.minute, answer.late), (stand, stand as i32));
+    for minute in [0, latest, latest + 1, stand - 1, stand, stand + 1] {
         for (row, number) in [(1, EARLY), (256, EARLY), (row, DONE), (257, UNLISTED)] {
             assert_eq!(series.call(Call::Start { row, minute }).refusal, number);
         }
     }
     assert_eq!(series.call(Call::List { len: 510 }).count, 1);
     let answer = series.call(Call::OrderOfPlan { plan: 1, len: 255 });
-    assert_eq!((answer.end, answer.late), (27_680_000, 27_680_000));
+    assert_eq!((answer.end, answer.late), (end, end as i32));
     assert_eq!(series.call(Call::List { len: 509 }).refusal, NARROW);
     series.settle();
+}
+
+#[test]
+fn past_the_latest_start_with_the_most_opening_minutes() {
+    past_the_latest_start(MAX_OPENING, 20_030_030, 27_687_680);
+}
+
+#[test]
+fn past_the_latest_start_with_none() {
+    past_the_latest_start(0, 20_030_000, 27_680_000);
+}
+
+/// The words of a desk hold the opening and, of each row, release, opening plus length, and due. With
+/// another opening, or another time of a row, they are a desk exactly if each row then has a length that
+/// a row can have.
+#[test]
+fn the_opening_in_the_words() {
+    const OPENING: usize = 3;
+    const COLUMNS: [usize; 3] = [8, 264, 520];
+    let mut fences = Fences::new();
+    let case = Case::new("the opening in the words", 0);
+    let book = Draft::of(5, 4, &[(1, 9, 1, 40_000), (2, 0, 2_000, 50_000)]).words();
+    let start = Call::Start { row: 1, minute: 9 };
+    let order = Call::OrderOfPlan { plan: 1, len: 2 };
+    for opening in OPENINGS {
+        let mut words = vec![u32::MAX; DESK_WORDS];
+        desk::open(opening, &book, &mut words).expect("accepted");
+        assert_eq!(words[OPENING], opening);
+        for (i, row) in [[9, 15, 40_000], [0, 30_000, 50_000]].iter().enumerate() {
+            let [release, time, due] = COLUMNS.map(|column| words[column + i]);
+            assert_eq!([release, time - opening, due], *row);
+        }
+        for other in (0..50).chain(REFUSED_OPENINGS) {
+            let mut changed = words.clone();
+            changed[OPENING] = other;
+            let lengths = [15, 30_000].map(|length| opening + length);
+            let fit = |time: u32| (1..=30_000).contains(&(i64::from(time) - i64::from(other)));
+            let is_desk = other <= MAX_OPENING && lengths.into_iter().all(fit);
+            for call in [start, Call::List { len: 4 }, order] {
+                let number = stays_within(case, &mut fences, &changed, call);
+                assert_eq!(
+                    number,
+                    if is_desk { 0 } else { RANGE },
+                    "{opening}, {other}"
+                );
+            }
+        }
+        for (length, number) in [(0, RANGE), (1, 0), (30_000, 0), (30_001, RANGE)] {
+            let mut changed = words.clone();
+            changed[COLUMNS[1]] = opening + length;
+            assert_eq!(stays_within(case, &mut fences, &changed, start), number);
+        }
+    }
 }
 
 /// The worst lateness so far: below 0 as long as all is early, from its least on; it never falls.
@@ -720,28 +785,39 @@ fn worst_so_far() {
     let mut fences = Fences::new();
     let days = [
         (
-            0,
+            (0, 0),
             vec![(1, 0, 1, 20_000_000), (2, 0, 1, 20_000_000)],
             vec![(2, 0, -19_999_999)],
         ),
         (
-            0,
+            (0, 0),
             vec![(1, 0, 1, 100), (2, 0, 2, 100), (3, 0, 3, 100)],
             vec![(1, 0, -99), (3, 50, -47), (2, 98, 0)],
         ),
         (
-            5,
+            (5, 0),
             vec![(1, 0, 1, 50), (2, 160, 1, 200)],
             vec![(1, 59, 10), (2, 160, 10)],
         ),
         (
-            0,
+            (0, 0),
             vec![(1, 0, 60, 70), (2, 0, 61, 71)],
             vec![(1, 9, -1), (2, 69, 59)],
         ),
+        // The second day again, each row with 4 minutes and with 30 to open.
+        (
+            (0, 4),
+            vec![(1, 0, 1, 100), (2, 0, 2, 100), (3, 0, 3, 100)],
+            vec![(1, 0, -95), (3, 50, -43), (2, 98, 4)],
+        ),
+        (
+            (0, 30),
+            vec![(1, 0, 1, 100), (2, 0, 2, 100), (3, 0, 3, 100)],
+            vec![(1, 0, -69), (3, 50, -17), (2, 98, 30)],
+        ),
     ];
-    for (i, (free, rows, starts)) in days.into_iter().enumerate() {
-        let case = Case::new("worst so far", i as u64);
+    for (i, ((free, opening), rows, starts)) in days.into_iter().enumerate() {
+        let case = Case::new("worst so far", i as u64).with_opening(opening);
         let book = Draft::of(free, 60, &rows).words();
         let mut series = Series::open(case, &mut fences, book, 0);
         for (row, minute, worst) in starts {
@@ -754,7 +830,7 @@ fn worst_so_far() {
     }
 }
 
-/// The typed wrapper on the first worked day, its long row first.
+/// The typed wrapper on the first worked day, its long row first; then the same with opening minutes.
 #[test]
 fn the_wrapper() {
     let rows = [(901, 1, 1, 5), (902, 0, 10, 12)];
@@ -764,9 +840,12 @@ fn the_wrapper() {
     let mut words = [0; DESK_WORDS];
     assert_eq!(desk::plans(&words), Err(refusal(RANGE, 0)));
     let short = &mut words[..DESK_WORDS - 1];
-    assert_eq!(desk::open(&book, short), Err(refusal(NARROW, 0)));
-    let opened = desk::open(&book, &mut words);
-    assert_eq!(opened, Ok(Opened { rows: 2, minute: 0 }));
+    assert_eq!(desk::open(0, &book, short), Err(refusal(NARROW, 0)));
+    // The opening minutes are looked at before the book, and that before the run.
+    assert_eq!(desk::open(31, &book, short), Err(refusal(RANGE, 0)));
+    assert_eq!(desk::open(31, &[], short), Err(refusal(RANGE, 0)));
+    let told = desk::open(0, &book, &mut words);
+    assert_eq!(told, Ok(Opened { rows: 2, minute: 0 }));
     assert_eq!(desk::plans(&words), Ok(vec![pair(11, 6), pair(12, 0)]));
 
     let start = |words: &mut [u32], row, minute| desk::start(words, row, minute);
@@ -784,4 +863,12 @@ fn the_wrapper() {
     assert_eq!(desk::list(&words, &mut order), Err(refusal(NARROW, 0)));
     assert_eq!(start(&mut words, 1, 12), Ok(moved(13, 8)));
     assert_eq!(desk::plans(&words), Ok(vec![]));
+
+    let told = desk::open(3, &book, &mut words);
+    assert_eq!(told, Ok(Opened { rows: 2, minute: 0 }));
+    assert_eq!(desk::plans(&words), Ok(vec![pair(17, 12), pair(18, 6)]));
+    assert_eq!(start(&mut words, 2, 0), Ok(moved(13, 1)));
+    assert_eq!(start(&mut words, 1, 12), Err(refusal(EARLY, 0)));
+    assert_eq!(desk::plans(&words), Ok(vec![pair(17, 12)]));
+    assert_eq!(start(&mut words, 1, 13), Ok(moved(17, 12)));
 }

@@ -11,11 +11,7 @@ use common::{calls, compare, each_call, Call, Case, Effort};
 use jelvaksna::books::{self, Draft, Rng};
 use jelvaksna::linked::first_come;
 use jelvaksna::model::{Day, MAX_ROWS};
-use jelvaksna::{refusal, word, Pair, Profile, Refusal};
-
-fn read(book: &[u32]) -> Result<Day, Refusal> {
-    Day::read_as(Profile::FirstCome, book)
-}
+use jelvaksna::{refusal, word, Pair, Profile};
 
 fn case(test: &'static str, case: u64) -> Case {
     Case::of(Profile::FirstCome, test, case)
@@ -25,7 +21,7 @@ fn books(
     test: &'static str,
     count: u64,
     effort: Effort,
-    make: impl FnMut(&mut Rng, u64) -> Vec<u32>,
+    make: impl FnMut(&mut Rng, Case) -> Vec<u32>,
 ) {
     let count = count * books::times();
     each_call(Profile::FirstCome, test, count, effort, make, compare);
@@ -33,7 +29,7 @@ fn books(
 
 /// All the calls that suit one book.
 fn compare_all(case: Case, book: &[u32], effort: Effort) {
-    let day = read(book);
+    let day = case.read(book);
     for call in calls(&mut case.rng(), &day, effort) {
         compare(case, book, &day, &call);
     }
@@ -62,8 +58,8 @@ fn middling_books() {
 
 #[test]
 fn long_books() {
-    books("first come, long books", 400, Effort::Few, |rng, i| {
-        let rows = match i % 3 {
+    books("first come, long books", 400, Effort::Few, |rng, case| {
+        let rows = match case.case % 3 {
             0 => MAX_ROWS,
             _ => rng.range(49, MAX_ROWS as i64) as usize,
         };
@@ -73,8 +69,8 @@ fn long_books() {
 
 #[test]
 fn crossing_books() {
-    books("crossing books", 10_000, Effort::Few, |rng, i| {
-        let rows = match i % 50 {
+    books("crossing books", 10_000, Effort::Few, |rng, case| {
+        let rows = match case.case % 50 {
             0 => MAX_ROWS,
             _ => 2 + rng.below(39),
         };
@@ -85,21 +81,26 @@ fn crossing_books() {
 /// Books for the other calls: most of them cross.
 #[test]
 fn books_of_the_other_rule() {
-    books("first come, other rule", 10_000, Effort::Few, |rng, i| {
-        let rows = 1 + rng.below(8);
-        match i % 4 {
-            0 => books::accepted(rng, rows),
-            1 => books::disagreeing(rng, rows + 1),
-            _ => books::of_both_rules(rng, rows).varied(rng),
-        }
-        .words()
-    });
+    books(
+        "first come, other rule",
+        10_000,
+        Effort::Few,
+        |rng, case| {
+            let rows = 1 + rng.below(8);
+            match case.case % 4 {
+                0 => books::accepted(rng, case.accepted_opening(), rows),
+                1 => books::disagreeing(rng, rows + 1),
+                _ => books::of_both_rules(rng, rows).varied(rng),
+            }
+            .words()
+        },
+    );
 }
 
 #[test]
 fn damaged_books() {
-    books("first come, damaged", 40_000, Effort::Few, |rng, i| {
-        let rows = match i % 40 {
+    books("first come, damaged", 40_000, Effort::Few, |rng, case| {
+        let rows = match case.case % 40 {
             0 => MAX_ROWS - rng.below(3),
             _ => 1 + rng.below(10),
         };
@@ -162,7 +163,7 @@ fn every_place() {
         compare_all(case(test, made), book, Effort::Few);
         made += 1;
     };
-    assert!(read(&sound).is_ok());
+    assert!(Day::read_as(Profile::FirstCome, 0, &sound).is_ok());
     for at in 0..sound.len() {
         for kind in 0..8 {
             for value in values {
@@ -185,11 +186,11 @@ fn every_number() {
     let test = "first come, every number";
     let mut made = 0;
     for i in 0..300 * books::times() {
-        let case = case(test, i);
+        let case = case(test, i).accepted();
         let mut rng = case.rng();
         let rows = 1 + rng.below(5);
         let book = books::first_come(&mut rng, rows).words();
-        let day = read(&book);
+        let day = case.read(&book);
         let late = day.as_ref().expect("accepted").list()[0].late;
         let mut check = |call: Call| {
             compare(case, &book, &day, &call);
@@ -218,29 +219,38 @@ fn every_number() {
 /// The latest end and lateness that a book can have, and the earliest work.
 #[test]
 fn limits() {
-    for (i, (draft, pair)) in books::at_the_limits().into_iter().enumerate() {
+    for (i, (opening, draft, pair)) in books::at_the_limits().into_iter().enumerate() {
+        let case = case("first come, limits", i as u64).with_opening(opening);
         let book = draft.words();
-        assert_eq!(read(&book).unwrap().list(), [pair]);
-        compare_all(case("first come, limits", i as u64), &book, Effort::All);
+        assert_eq!(case.read(&book).unwrap().list(), [pair]);
+        compare_all(case, &book, Effort::All);
     }
 }
 
-/// The typed wrapper on a day of two rows.
+/// The typed wrapper on a day of two rows, with no opening minutes and with some.
 #[test]
 fn the_wrapper() {
     let book = Draft::of(0, 60, &[(901, 1, 1, 20), (902, 0, 10, 12)]).words();
     let pair = |end, late| Pair { end, late };
-    assert_eq!(first_come::plans(&book).unwrap(), [pair(11, -2)]);
-    let mut order = [0; 2];
-    let given = first_come::order_for_bound(&book, 5, &mut order);
-    assert_eq!((given, order), (Ok(pair(11, -2)), [2, 1]));
-    let given = first_come::order_of_plan(&book, 1, &mut order);
-    assert_eq!((given, order), (Ok(pair(11, -2)), [2, 1]));
-    let verdict = first_come::verdict(&book, &[1, 2]);
-    assert_eq!(verdict, Ok((pair(12, 0), Some(1))));
+    // The plan: 0 to 10 to 11, or 0 to 13 to 17; the posting: 1 to 2 to 12, or 1 to 5 to 18.
+    for (opening, plan, posting) in [
+        (0, pair(11, -2), pair(12, 0)),
+        (3, pair(17, 1), pair(18, 6)),
+    ] {
+        assert_eq!(first_come::plans(opening, &book).unwrap(), [plan]);
+        let mut order = [0; 2];
+        let given = first_come::order_for_bound(opening, &book, 5, &mut order);
+        assert_eq!((given, order), (Ok(plan), [2, 1]));
+        let given = first_come::order_of_plan(opening, &book, 1, &mut order);
+        assert_eq!((given, order), (Ok(plan), [2, 1]));
+        let verdict = first_come::verdict(opening, &book, &[1, 2]);
+        assert_eq!(verdict, Ok((posting, Some(1))));
+    }
+    let told = first_come::plans(31, &book).unwrap_err();
+    assert_eq!((told.number, told.place), (refusal::RANGE, 0));
     let words = first_come::row_words(&book, 2).unwrap();
     assert!(std::ptr::eq(words, &book[6..10]));
     let crossed = Draft::of(0, 60, &[(901, 1, 1, 5), (902, 0, 10, 12)]).words();
-    let told = first_come::plans(&crossed).unwrap_err();
+    let told = first_come::plans(0, &crossed).unwrap_err();
     assert_eq!((told.number, told.place), (refusal::CROSSED, 6));
 }

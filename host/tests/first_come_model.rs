@@ -4,18 +4,23 @@
 #[path = "common/kit.rs"]
 mod kit;
 
-use jelvaksna::books::{self, Draft, DraftRow, Rng};
+use jelvaksna::books::{self, Draft, DraftRow, Rng, OPENINGS};
 use jelvaksna::model::Day;
 use jelvaksna::{word, Pair, Profile, Refusal};
 use kit::{sequences, Counts};
 use std::collections::BTreeSet;
 
 fn read(book: &[u32]) -> Result<Day, Refusal> {
-    Day::read_as(Profile::FirstCome, book)
+    Day::read_as(Profile::FirstCome, 0, book)
 }
 
 fn day(draft: &Draft) -> Day {
-    read(&draft.words()).expect("an accepted day")
+    day_with(0, draft)
+}
+
+/// An accepted day with opening minutes.
+fn day_with(opening: u32, draft: &Draft) -> Day {
+    Day::read_as(Profile::FirstCome, opening, &draft.words()).expect("an accepted day")
 }
 
 fn pair(end: u32, late: i32) -> Pair {
@@ -97,13 +102,16 @@ fn the_one_plan_goes_by_release_then_due_then_row() {
     late.free = 100;
     let plan = (pair(115, 85), vec![5, 4, 2, 3, 1]);
     assert_eq!(self::day(&late).order_of_plan(1), plan);
+    // Nor do opening minutes. 3 to 7, to 14, to 24, to 29, to 33.
+    let plan = (pair(33, -1), vec![5, 4, 2, 3, 1]);
+    assert_eq!(day_with(3, &rows_of(&rows)).order_of_plan(1), plan);
 }
 
 #[test]
 fn accepted_by_one_rule_by_both_or_by_neither() {
     let either = |rows: &[(i64, i64, i64)]| {
         let book = rows_of(rows).words();
-        let other = Day::read(&book).err().map(|r| r.number);
+        let other = Day::read(0, &book).err().map(|r| r.number);
         (refusal(&book).map(|r| r.0), other)
     };
     assert_eq!(either(&[(1, 1, 5), (0, 10, 12)]), (Some(13), None));
@@ -112,7 +120,7 @@ fn accepted_by_one_rule_by_both_or_by_neither() {
     assert_eq!(either(&[(0, 10, 12), (1, 10, 13)]), (None, None));
     // Both are there at minute 10 and due at 50: by release here, by release plus length there.
     let both = Draft::of(10, 60, &[(901, 0, 10, 50), (902, 5, 2, 50)]);
-    let standard = Day::read(&both.words()).unwrap();
+    let standard = Day::read(0, &both.words()).unwrap();
     assert_eq!(day(&both).order_of_plan(1), (pair(22, -28), vec![1, 2]));
     assert_eq!(standard.order_of_plan(1), (pair(22, -28), vec![2, 1]));
 }
@@ -154,12 +162,12 @@ fn refusals_in_their_sequence() {
     assert_eq!(day.verdict(&[1, 2]), Ok((pair(12, 0), Some(1))));
 }
 
-/// The pair of an order, as the desk goes through it.
-fn gone_through(draft: &Draft, order: &[u32]) -> Pair {
+/// The pair of an order, as the desk goes through it: each row takes opening plus length.
+fn gone_through(opening: u32, draft: &Draft, order: &[u32]) -> Pair {
     let (mut minute, mut worst) = (draft.free, i64::MIN);
     for &row in order {
         let row = &draft.rows[row as usize - 1];
-        minute = minute.max(row.release) + draft.reach(row) - row.release;
+        minute = minute.max(row.release) + i64::from(opening) + draft.reach(row) - row.release;
         worst = worst.max(minute - row.due);
     }
     pair(minute as u32, worst as i32)
@@ -173,15 +181,16 @@ fn against_every_order(test: &str, books: u64, least: usize, most: usize) {
     for case in 0..books {
         let mut rng = Rng::for_case(seed, test, case);
         let rows = rng.range(least as i64, most as i64) as usize;
+        let opening = rng.pick(&OPENINGS);
         let draft = books::first_come(&mut rng, rows);
-        let context = format!("seed {seed:#x}, {test}, case {case}: {draft:?}");
-        let day = day(&draft);
+        let context = format!("seed {seed:#x}, {test}, case {case}, opening {opening}: {draft:?}");
+        let day = day_with(opening, &draft);
         let (plan, order) = day.order_of_plan(1);
         assert_eq!(day.list(), [plan], "{context}");
-        assert_eq!(gone_through(&draft, &order), plan, "{context}");
+        assert_eq!(gone_through(opening, &draft, &order), plan, "{context}");
         let numbers: Vec<u32> = (1..=rows as u32).collect();
         for posting in sequences(&numbers) {
-            let told = gone_through(&draft, &posting);
+            let told = gone_through(opening, &draft, &posting);
             let no_later = plan.end <= told.end && plan.late <= told.late;
             assert!(no_later, "{posting:?}, {context}");
             let by = (told != plan).then_some(1);
@@ -217,10 +226,11 @@ fn both_rules_list_the_same() {
     for case in 0..3_000 * books::times() {
         let mut rng = Rng::for_case(seed, "both rules", case);
         let rows = books::some_rows(&mut rng, 256);
+        let opening = rng.pick(&OPENINGS);
         let draft = books::of_both_rules(&mut rng, rows).shuffled(&mut rng);
-        let context = format!("seed {seed:#x}, case {case}: {draft:?}");
-        let standard = Day::read(&draft.words()).expect(&context);
-        let day = day(&draft);
+        let context = format!("seed {seed:#x}, case {case}, opening {opening}: {draft:?}");
+        let standard = Day::read(opening, &draft.words()).expect(&context);
+        let day = day_with(opening, &draft);
         assert_eq!(day.list(), standard.list(), "{context}");
         other_order += u64::from(day.order_of_plan(1) != standard.order_of_plan(1));
     }
@@ -270,7 +280,7 @@ fn count_accepted(counts: &mut Counts, draft: &Draft, day: &Day) {
     counts.add_if(classes.len() > 2, "several classes");
     let one = rows.len() > 1 && classes.len() == 1 && day.has_classes();
     counts.add_if(one, "one class");
-    let other = Day::read(&draft.words());
+    let other = Day::read(0, &draft.words());
     counts.add_if(other.is_ok() && rows.len() > 1, "accepted by both rules");
     counts.add_if(other.is_err(), "accepted by the profile alone");
 }

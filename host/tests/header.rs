@@ -1,7 +1,7 @@
 //! The header says what the Rust declarations say, and both what the archive exports and what the
 //! source of the exported functions says.
 
-use jelvaksna::{refusal, DESK_WORDS, VERSION};
+use jelvaksna::{refusal, DESK_WORDS, MAX_OPENING, VERSION};
 use std::collections::BTreeSet;
 use std::fs::read_to_string;
 use std::process::Command;
@@ -179,6 +179,7 @@ fn constants() {
         assert_eq!(value(name), number.to_string(), "{name}");
     }
     assert!(header.contains(&format!("number, 1 to {};", numbers.len())));
+    assert_eq!(value("MAX_OPENING"), MAX_OPENING.to_string());
     let rows = jelvaksna::model::MAX_ROWS;
     assert_eq!(value("MAX_ROWS"), rows.to_string());
     assert_eq!(value("MAX_LIST_WORDS"), (2 * rows).to_string());
@@ -186,6 +187,21 @@ fn constants() {
     assert_eq!(value("DESK_WORDS"), DESK_WORDS.to_string());
     assert_eq!(value("VERSION"), format!("\"{VERSION}\""));
     assert!(env!("CARGO_PKG_VERSION").starts_with(&format!("{VERSION}.")));
+}
+
+/// The first parameter of each call that works out ends or opens a desk is the opening, and no other
+/// call has one.
+#[test]
+fn opening() {
+    let header = header_functions();
+    let opening = ("opening".to_string(), "u32".to_string());
+    let told: Vec<_> = header.iter().filter(|f| f.1[0] == opening).collect();
+    assert_eq!(told.len(), 9);
+    let on_a_desk = |name: &str| name.starts_with("jelvaksna_desk_") && !name.ends_with("_open");
+    for (name, params, _) in &header {
+        let none = name.ends_with("_row_place") || on_a_desk(name);
+        assert_eq!(params.contains(&opening), !none, "{name}");
+    }
 }
 
 /// The table of classes in the header's text has the margins that the model has.

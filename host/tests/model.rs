@@ -1,13 +1,13 @@
 //! The model against the days of document 01, the classes of request L1, the rows as they arrive of
-//! request L2 and the nearest minute of request L3, against trying every order, and the book maker
-//! against what it promises. Needs no archive.
+//! request L2, the nearest minute of request L3 and the opening minutes of request L7, against trying
+//! every order, and the book maker against what it promises. Needs no archive.
 
 #[path = "common/kit.rs"]
 mod kit;
 
-use jelvaksna::books::{self, Draft, DraftRow, Rng};
+use jelvaksna::books::{self, Draft, DraftRow, Rng, OPENINGS, REFUSED_OPENINGS};
 use jelvaksna::model::{self, Day, Row};
-use jelvaksna::{word, Pair, Refusal};
+use jelvaksna::{word, Pair, Profile, Refusal};
 use kit::{sequences, Counts};
 use std::collections::BTreeSet;
 
@@ -30,7 +30,12 @@ fn m13() -> Draft {
 }
 
 fn day(draft: &Draft) -> Day {
-    Day::read(&draft.words()).expect("an accepted day")
+    day_with(0, draft)
+}
+
+/// An accepted day with opening minutes.
+fn day_with(opening: u32, draft: &Draft) -> Day {
+    Day::read(opening, &draft.words()).expect("an accepted day")
 }
 
 fn pair(end: u32, late: i32) -> Pair {
@@ -43,7 +48,7 @@ fn refused<T>(number: u32, place: usize) -> Result<T, Refusal> {
 
 /// What refuses a book: number and place.
 fn refusal(book: &[u32]) -> Option<(u32, usize)> {
-    Day::read(book).err().map(|r| (r.number, r.place))
+    Day::read(0, book).err().map(|r| (r.number, r.place))
 }
 
 /// The book of a desk free from minute 0 at 60 pages an hour, and rows of release, pages (and so
@@ -112,9 +117,12 @@ fn m2_to_m6_three_rows() {
 fn m7_m8_rows_that_agree_and_disagree() {
     let mut draft = m1();
     draft.rows[1].due = 13;
-    assert!(Day::read(&draft.words()).is_ok());
+    assert!(Day::read(0, &draft.words()).is_ok());
     draft.rows[1].due = 14;
-    assert_eq!(Day::read(&draft.words()).err(), refused::<()>(8, 6).err());
+    assert_eq!(
+        Day::read(0, &draft.words()).err(),
+        refused::<()>(8, 6).err()
+    );
 }
 
 #[test]
@@ -159,7 +167,7 @@ fn m13_a_last_plan_without_a_comparison() {
 
 #[test]
 fn unmarked_days() {
-    let reading = |book: &[u32]| Day::read(book).map(|day| day.rows.len());
+    let reading = |book: &[u32]| Day::read(0, book).map(|day| day.rows.len());
     assert_eq!(
         reading(&[word(1, 0), word(2, 60), word(7, 0)]),
         refused(2, 2)
@@ -370,12 +378,12 @@ fn each_class_has_its_margin() {
     let margins = [60, 120, 480, 1_440, 4_320, 10_080, 20_160, 43_200];
     for (i, margin) in margins.into_iter().enumerate() {
         let one = book_of(&[(100, 11, class(i as u32))]);
-        let day = Day::read(&one).unwrap();
+        let day = Day::read(0, &one).unwrap();
         let row = day.rows[0];
         assert_eq!((row.due, row.class), (111 + margin, Some(i as u32)));
         assert_eq!(day.list(), [pair(111, -margin as i32)]);
         // The same due in a word of its own is no class.
-        let row = Day::read(&book_of(&[(100, 11, due(row.due as u32))]))
+        let row = Day::read(0, &book_of(&[(100, 11, due(row.due as u32))]))
             .unwrap()
             .rows[0];
         assert_eq!((row.due, row.class), (111 + margin, None));
@@ -384,7 +392,7 @@ fn each_class_has_its_margin() {
     let of = |pace: u32, release: u32, pages: u32, class: u32| {
         let mut book = book_of(&[(release, pages, word(0, class))]);
         book[1] = word(2, pace);
-        Day::read(&book).unwrap().rows[0].due
+        Day::read(0, &book).unwrap().rows[0].due
     };
     assert_eq!(of(40, 0, 7, 0), 71);
     assert_eq!(of(50, 0, 1, 0), 61);
@@ -481,7 +489,7 @@ fn one_class_is_accepted_in_any_order() {
         if rng.one_in(3) {
             draft.rows.sort_by_key(|row| row.due);
         }
-        let day = Day::read(&draft.words());
+        let day = Day::read(0, &draft.words());
         let day = day.unwrap_or_else(|r| panic!("seed {seed:#x}, case {case}: {r:?} {draft:?}"));
         match day.is_sorted() {
             true => sorted += 1,
@@ -500,8 +508,8 @@ fn row_words_give_back_the_class() {
     for case in 0..1_000 {
         let mut rng = Rng::for_case(seed, "row words", case);
         let rows = books::some_rows(&mut rng, 48);
-        let book = books::accepted(&mut rng, rows).words();
-        let day = Day::read(&book).unwrap();
+        let book = books::accepted(&mut rng, 0, rows).words();
+        let day = Day::read(0, &book).unwrap();
         for (i, row) in day.rows.iter().enumerate() {
             let place = day.row_place(i as u32 + 1).unwrap();
             let last = match row.class {
@@ -518,19 +526,175 @@ fn row_words_give_back_the_class() {
     assert!(by_class.iter().all(|&rows| rows > 100));
 }
 
+// ---- Opening minutes ----
+
+#[test]
+fn worked_days_with_opening_minutes() {
+    // 0 to 11 to 13, or 1 to 3 to 14; 0 to 40 to 71, or 1 to 32 to 72.
+    let plans = [
+        (1, [pair(13, 8), pair(14, 2)]),
+        (30, [pair(71, 66), pair(72, 60)]),
+    ];
+    for (opening, pairs) in plans {
+        let day = day_with(opening, &m1());
+        assert_eq!(day.list(), pairs);
+        assert_eq!(day.order_of_plan(1), (pairs[0], vec![2, 1]));
+        assert_eq!(day.order_of_plan(2), (pairs[1], vec![1, 2]));
+        assert_eq!(
+            day.order_for_bound(pairs[0].late - 1),
+            Some((pairs[1], vec![1, 2]))
+        );
+        assert_eq!(day.verdict(&[2, 1]), Ok((pairs[0], None)));
+    }
+    // With 10 the desk has no idle minute before the third row, so that the order of the other two
+    // moves the end: 0 to 20 to 31 to 46, or 1 to 12 to 32 to 47.
+    let day = day_with(10, &m2());
+    assert_eq!(day.list(), [pair(46, 26), pair(47, 20)]);
+    assert_eq!(day.verdict(&[1, 3, 2]), Ok((pair(55, 43), Some(1))));
+    // A row alone.
+    assert_eq!(
+        day_with(30, &Draft::of(7, 60, &[(1, 3, 4, 10)])).list(),
+        [pair(41, 31)]
+    );
+    assert_eq!(
+        day_with(30, &Draft::of(7, 60, &[(1, 50, 4, 10)])).list(),
+        [pair(84, 74)]
+    );
+    for (opening, draft, pair) in books::at_the_limits() {
+        assert_eq!(day_with(opening, &draft).list(), [pair]);
+    }
+}
+
+#[test]
+fn an_opening_outside_is_refused_before_the_book_is_looked_at() {
+    let sound = m1().words();
+    let books = [
+        &sound[..],
+        &[],
+        &[0; 3],
+        &sound[..5],
+        &[word(1, 10_000_001)],
+    ];
+    for profile in [Profile::OrderingRule, Profile::FirstCome] {
+        for (opening, book) in REFUSED_OPENINGS
+            .iter()
+            .flat_map(|&o| books.map(|book| (o, book)))
+        {
+            let told = Day::read_as(profile, opening, book).err();
+            assert_eq!(told, refused::<()>(3, 0).err());
+        }
+    }
+    for opening in OPENINGS {
+        assert!(Day::read(opening, &sound).is_ok());
+        assert_eq!(Day::read(opening, &[]).err(), refused::<()>(1, 0).err());
+    }
+}
+
+/// Dues of classes, spares, disorder and crossing are what they are without.
+#[test]
+fn opening_minutes_change_no_row_and_no_refusal_of_a_book() {
+    let seed = books::seed();
+    let (mut accepted, mut refused) = (0, 0);
+    for case in 0..2_000 * books::times() {
+        let mut rng = Rng::for_case(seed, "opening, rows", case);
+        let rows = 2 + rng.below(12);
+        let book = match case % 5 {
+            0 => books::disagreeing(&mut rng, rows).words(),
+            1 => books::crossing(&mut rng, rows).words(),
+            2 => books::first_come(&mut rng, rows).words(),
+            3 => books::accepted(&mut rng, 0, rows).words(),
+            _ => {
+                let book = books::accepted(&mut rng, 0, rows).words();
+                books::damaged(&mut rng, &book)
+            }
+        };
+        for profile in [Profile::OrderingRule, Profile::FirstCome] {
+            let rows = |opening| Day::read_as(profile, opening, &book).map(|day| day.rows);
+            let plain = rows(0);
+            for opening in OPENINGS {
+                assert_eq!(
+                    rows(opening),
+                    plain,
+                    "seed {seed:#x}, case {case}: {book:?}"
+                );
+            }
+            accepted += u64::from(plain.is_ok());
+            refused += u64::from(plain.is_err());
+        }
+    }
+    println!("opening, rows: seed {seed:#x}, {accepted} books accepted, {refused} refused");
+    assert!(accepted > 1_000 && refused > 1_000);
+}
+
+/// Opening minutes are as good as lengths that are so much longer, with the same dues: the same pairs,
+/// orders and verdicts, the same refusals.
+#[test]
+fn an_opening_is_as_good_as_longer_lengths() {
+    let seed = books::seed();
+    let (mut accepted, mut several, mut refused) = (0, 0, 0);
+    for case in 0..4_000 * books::times() {
+        let mut rng = Rng::for_case(seed, "longer lengths", case);
+        let (opening, rows) = (rng.pick(&OPENINGS), 2 + rng.below(14));
+        let (profile, draft) = match case % 8 {
+            0 => (Profile::OrderingRule, books::disagreeing(&mut rng, rows)),
+            1 => (Profile::FirstCome, books::crossing(&mut rng, rows)),
+            2 | 3 => (Profile::FirstCome, books::first_come(&mut rng, rows)),
+            _ => (
+                Profile::OrderingRule,
+                books::accepted(&mut rng, opening, rows),
+            ),
+        };
+        let Some(longer) = draft.lengthened(opening) else {
+            continue;
+        };
+        let context = format!("seed {seed:#x}, case {case}, opening {opening}: {draft:?}");
+        let day = Day::read_as(profile, opening, &draft.words());
+        let longer = Day::read_as(profile, 0, &longer.words());
+        let (day, longer) = match (day, longer) {
+            (Ok(day), Ok(longer)) => (day, longer),
+            (day, longer) => {
+                assert!(day.is_err() && day.err() == longer.err(), "{context}");
+                refused += 1;
+                continue;
+            }
+        };
+        assert_eq!(day.list(), longer.list(), "{context}");
+        for plan in 1..=day.list().len() {
+            assert_eq!(
+                day.order_of_plan(plan),
+                longer.order_of_plan(plan),
+                "{context}"
+            );
+            let bound = day.list()[plan - 1].late + rng.range(-2, 2) as i32;
+            let (one, other) = (day.order_for_bound(bound), longer.order_for_bound(bound));
+            assert_eq!(one, other, "{context}");
+        }
+        let mut posting: Vec<u32> = (1..=rows as u32).collect();
+        rng.shuffle(&mut posting);
+        assert_eq!(day.verdict(&posting), longer.verdict(&posting), "{context}");
+        accepted += u64::from(opening > 0);
+        several += u64::from(opening > 0 && day.list().len() > 1);
+    }
+    println!("longer lengths: seed {seed:#x}, {accepted} books with opening minutes, {several} with several plans, {refused} refused");
+    assert!(accepted > 1_500 && several > 200 && refused > 500);
+}
+
 /// The model's method against the definitions, by trying every order.
 fn against_every_order(test: &str, books: u64, least: usize, most: usize) {
     let seed = books::seed();
     let (mut several, mut unkept, mut classed, mut unsorted) = (0, 0, 0, 0);
+    let mut opened = 0;
     for case in 0..books {
         let mut rng = Rng::for_case(seed, test, case);
         let rows = rng.range(least as i64, most as i64) as usize;
-        let draft = books::accepted(&mut rng, rows);
-        let context = format!("seed {seed:#x}, {test}, case {case}: {draft:?}");
-        let day = day(&draft);
+        let opening = rng.pick(&OPENINGS);
+        let draft = books::accepted(&mut rng, opening, rows);
+        let context = format!("seed {seed:#x}, {test}, case {case}, opening {opening}: {draft:?}");
+        let day = day_with(opening, &draft);
         let every = day.every_pair();
         assert_eq!(day.list(), day.list_by_definition(), "{context}");
         several += u64::from(day.list().len() > 1);
+        opened += u64::from(day.list().len() > 1 && opening > 0);
         classed += u64::from(day.has_classes());
         unsorted += u64::from(!day.is_sorted());
         let mut bounds = vec![i32::MIN, i32::MAX, -1, 0, 1];
@@ -563,8 +727,9 @@ fn against_every_order(test: &str, books: u64, least: usize, most: usize) {
         let beaten = every.iter().any(|other| other.beats(pair));
         assert_eq!(plan.is_some(), beaten, "{posting:?}, {context}");
     }
-    println!("{test}: seed {seed:#x}, {books} books of {least} to {most} rows, {several} with several plans, {classed} with class rows, {unsorted} unsorted, {unkept} unkept bounds");
+    println!("{test}: seed {seed:#x}, {books} books of {least} to {most} rows, {several} with several plans, {opened} of them with opening minutes, {classed} with class rows, {unsorted} unsorted, {unkept} unkept bounds");
     assert!(several > books / 20 && unkept > 0 && classed > books / 5 && unsorted > books / 4);
+    assert!(opened > several / 2);
 }
 
 #[test]
@@ -584,14 +749,18 @@ fn every_order_of_eight_rows() {
 
 #[test]
 fn every_plan_of_the_days_with_many() {
-    for rows in (2..=9).chain([32, 128, 200, 229, 230, 231, 244, 256]) {
-        let draft = books::many_plans(rows);
-        let sorted = day(&draft);
-        let unsorted = day(&draft.shuffled(&mut Rng::new(rows as u64)));
-        assert_eq!(sorted.list().len(), rows.min(230));
-        assert_eq!(unsorted.list(), sorted.list());
-        if rows <= 8 {
-            assert_eq!(sorted.list(), sorted.list_by_definition());
+    assert_eq!(books::most_plans(0), 230);
+    for opening in OPENINGS {
+        let most = books::most_plans(opening);
+        for rows in (2..=8).chain([32, 128, most - 1, most, most + 1, 256]) {
+            let draft = books::many_plans(opening, rows);
+            let sorted = day_with(opening, &draft);
+            let unsorted = day_with(opening, &draft.shuffled(&mut Rng::new(rows as u64)));
+            assert_eq!(sorted.list().len(), rows.min(most));
+            assert_eq!(unsorted.list(), sorted.list());
+            if rows < 8 {
+                assert_eq!(sorted.list(), sorted.list_by_definition());
+            }
         }
     }
 }
@@ -629,7 +798,7 @@ fn count_ties(counts: &mut Counts, day: &Day) {
         for i in 0..order.len() {
             kinds.extend(ties_at(day, minute, &order[i..]));
             let row = day.rows[order[i] as usize - 1];
-            minute = minute.max(row.release) + row.length;
+            minute = minute.max(row.release) + day.opening + row.length;
         }
     }
     for kind in kinds {
@@ -679,8 +848,8 @@ fn count_accepted(counts: &mut Counts, day: &Day) {
         _ => "10 plans and more",
     });
     counts.add_if(plans.iter().any(|pair| pair.late < 0), "early");
-    let lengths: i64 = rows.iter().map(|row| row.length).sum();
-    counts.add_if(i64::from(plans[0].end) > day.free + lengths, "idle");
+    let times: i64 = rows.iter().map(|row| day.opening + row.length).sum();
+    counts.add_if(i64::from(plans[0].end) > day.free + times, "idle");
     let some = |is: fn(&Row, &Row) -> bool| {
         let above = |(i, row)| rows[..i].iter().any(|above| is(above, row));
         rows.iter().enumerate().any(above)
@@ -770,9 +939,10 @@ fn the_maker_makes_what_it_says() {
             0..=255 => case as usize + 1,
             _ => books::some_rows(&mut rng, 48),
         };
-        let draft = books::accepted(&mut rng, rows);
+        let opening = rng.pick(&OPENINGS);
+        let draft = books::accepted(&mut rng, opening, rows);
         let book = draft.words();
-        let day = Day::read(&book);
+        let day = Day::read(opening, &book);
         let day = day.unwrap_or_else(|r| panic!("seed {seed:#x}, case {case}: {r:?} {draft:?}"));
         assert!(at_odds(&book).is_empty(), "seed {seed:#x}, case {case}");
         count_accepted(&mut counts, &day);
@@ -780,7 +950,7 @@ fn the_maker_makes_what_it_says() {
         count_classes(&mut counts, &day);
         for _ in 0..4 {
             let book = books::damaged(&mut rng, &book);
-            match Day::read(&book) {
+            match Day::read(0, &book) {
                 Ok(_) => {
                     assert!(at_odds(&book).is_empty(), "seed {seed:#x}, case {case}");
                     counts.add("damaged, yet accepted");
@@ -853,7 +1023,7 @@ fn the_maker_of_disorder() {
         let draft = books::disagreeing(&mut rng, rows);
         let book = draft.words();
         let context = format!("seed {seed:#x}, case {case}: {draft:?}");
-        let refusal = Day::read(&book).expect_err(&context);
+        let refusal = Day::read(0, &book).expect_err(&context);
         assert_eq!(refusal.number, 8, "{context}");
         match at_odds(&book)[..] {
             [_] => {}
@@ -884,7 +1054,7 @@ fn the_sequence_of_rows_decides_ties_alone() {
         let rows = books::some_rows(&mut rng, 48);
         let draft = match rng.below(3) {
             0 => books::ties(&mut rng, rows).varied(&mut rng),
-            _ => books::accepted(&mut rng, rows),
+            _ => books::accepted(&mut rng, 0, rows),
         };
         let context = format!("seed {seed:#x}, case {case}: {draft:?}");
         let text = printed(&draft);

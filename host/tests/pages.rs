@@ -2,7 +2,7 @@
 
 mod common;
 
-use common::{compare_fenced, each_call, fence::Fences, Effort};
+use common::{compare_fenced, each_call, fence::Fences, Case, Effort};
 use jelvaksna::books::{self, Draft, Rng};
 use jelvaksna::model::MAX_ROWS;
 use jelvaksna::Profile;
@@ -12,7 +12,7 @@ fn fenced(
     test: &'static str,
     count: u64,
     effort: Effort,
-    make: impl Fn(&mut Rng, u64) -> Vec<u32>,
+    make: impl Fn(&mut Rng, Case) -> Vec<u32>,
 ) {
     let mut fences = Fences::new();
     let compare =
@@ -20,15 +20,15 @@ fn fenced(
     each_call(profile, test, count, effort, make, compare);
 }
 
-/// Makes a day of so many rows.
-type Maker = fn(&mut Rng, usize) -> Draft;
+/// Makes a day of so many rows, for so many opening minutes.
+type Maker = fn(&mut Rng, u32, usize) -> Draft;
 
 fn short(profile: Profile, test: &'static str, make: Maker) {
     let count = 600 * books::times();
-    fenced(profile, test, count, Effort::All, |rng, i| {
+    fenced(profile, test, count, Effort::All, |rng, case| {
         let rows = 1 + rng.below(10);
-        let book = make(rng, rows).words();
-        match i % 2 {
+        let book = make(rng, case.accepted_opening(), rows).words();
+        match case.case % 2 {
             0 => book,
             _ => books::damaged(rng, &book),
         }
@@ -38,18 +38,20 @@ fn short(profile: Profile, test: &'static str, make: Maker) {
 #[test]
 fn short_books() {
     short(Profile::OrderingRule, "short books", books::accepted);
-    short(Profile::FirstCome, "first come, short", books::first_come);
+    short(Profile::FirstCome, "first come, short", |rng, _, rows| {
+        books::first_come(rng, rows)
+    });
 }
 
 fn long(profile: Profile, test: &'static str, make: Maker) {
     let count = 30 * books::times();
-    fenced(profile, test, count, Effort::Few, |rng, i| {
-        let rows = match i % 2 {
+    fenced(profile, test, count, Effort::Few, |rng, case| {
+        let rows = match case.case % 2 {
             0 => MAX_ROWS,
             _ => 100 + rng.below(157),
         };
-        let book = make(rng, rows).words();
-        match i % 3 {
+        let book = make(rng, case.accepted_opening(), rows).words();
+        match case.case % 3 {
             0 => books::damaged(rng, &book),
             _ => book,
         }
@@ -58,16 +60,18 @@ fn long(profile: Profile, test: &'static str, make: Maker) {
 
 #[test]
 fn long_books() {
-    long(Profile::OrderingRule, "long books", |rng, rows| {
-        books::typical_day(rng, rows).varied(rng)
+    long(Profile::OrderingRule, "long books", |rng, opening, rows| {
+        books::typical_day(rng, opening, rows).varied(rng)
     });
-    long(Profile::FirstCome, "first come, long", books::first_come);
+    long(Profile::FirstCome, "first come, long", |rng, _, rows| {
+        books::first_come(rng, rows)
+    });
 }
 
 /// Every prefix of a book, as long as the buffer that holds it.
 #[test]
 fn every_cut() {
-    let day = books::several_plans(&mut Rng::new(3), 12);
+    let day = books::several_plans(&mut Rng::new(3), 0, 12);
     let come = books::steady_day(&mut Rng::new(3), 12);
     for (profile, test, day) in [
         (Profile::OrderingRule, "cuts", day.clone()),
@@ -76,8 +80,8 @@ fn every_cut() {
     ] {
         let book = day.words();
         let count = book.len() as u64 + 1;
-        fenced(profile, test, count, Effort::All, |_, i| {
-            book[..i as usize].to_vec()
+        fenced(profile, test, count, Effort::All, |_, case| {
+            book[..case.case as usize].to_vec()
         });
     }
 }

@@ -1,6 +1,6 @@
-//! A million inputs on the path that `slate` takes: bytes to words, then the archive's list and a
-//! row, and for a good part of the accepted ones all that `slate` would print. Then `slate` itself,
-//! and `scribe` on the days of examples/.
+//! A million inputs on the path that `slate` takes, with no opening minutes: bytes to words, then the
+//! archive's list and a row, and for a good part of the accepted ones all that `slate` would print.
+//! Then `slate` itself, and `scribe` on the days of examples/.
 
 mod common;
 
@@ -14,7 +14,7 @@ use std::process::{Command, Stdio};
 /// What `slate` prints, from the archive's answers alone.
 fn printed(words: &[u32]) -> String {
     let mut list = [0; 2 * MAX_ROWS];
-    let plans = match linked::list(words, &mut list) {
+    let plans = match linked::list(0, words, &mut list) {
         Ok(plans) => plans,
         Err(no) => return format!("refused {} at {}\n", no.number, no.place),
     };
@@ -25,7 +25,7 @@ fn printed(words: &[u32]) -> String {
     let mut text = format!("rows {rows} plans {plans}\n");
     for plan in 1..=plans {
         let mut order = vec![0; rows as usize];
-        let pair = linked::order_of_plan(words, plan as u32, &mut order).expect("a listed plan");
+        let pair = linked::order_of_plan(0, words, plan as u32, &mut order).expect("a listed plan");
         assert_eq!(list[2 * plan - 2..2 * plan], [pair.end, pair.late as u32]);
         write!(
             text,
@@ -63,7 +63,7 @@ fn look(case: Case, rng: &mut Rng, input: &[u8], tally: &mut Tally) {
                 .collect()
         }
     };
-    let day = Day::read(&words);
+    let day = case.read(&words);
     match &day {
         Ok(day) => tally.accepted.count(&words, day),
         Err(no) => tally.refused[no.number as usize] += 1,
@@ -99,7 +99,7 @@ fn bytes(rng: &mut Rng, book: &[u32]) -> Vec<u8> {
 fn inputs(test: &'static str, count: u64, mut make: impl FnMut(&mut Rng, u64) -> Vec<u8>) {
     let mut tally = Tally::default();
     for i in 0..count {
-        let case = Case::new(test, i);
+        let case = Case::new(test, i).with_opening(0);
         let mut rng = case.rng();
         let input = make(&mut rng, i);
         look(case, &mut rng, &input, &mut tally);
@@ -137,7 +137,7 @@ fn random_inputs() {
 fn mutated_inputs() {
     inputs("mutated inputs", 350_000 * books::times(), |rng, _| {
         let rows = 1 + rng.below(7);
-        let book = books::accepted(rng, rows).words();
+        let book = books::accepted(rng, 0, rows).words();
         let book = books::damaged(rng, &book);
         bytes(rng, &book)
     });
@@ -151,7 +151,7 @@ fn spliced_inputs() {
     let pool: Vec<Vec<u8>> = (0..200)
         .map(|i| {
             let rows = 1 + i % 9;
-            let book = books::accepted(&mut rng, rows).words();
+            let book = books::accepted(&mut rng, 0, rows).words();
             book.iter().flat_map(|word| word.to_le_bytes()).collect()
         })
         .collect();
@@ -186,7 +186,7 @@ fn long_inputs() {
             0 => MAX_ROWS,
             _ => 1 + rng.below(MAX_ROWS),
         };
-        let mut book = books::typical_day(rng, rows).varied(rng).words();
+        let mut book = books::typical_day(rng, 0, rows).varied(rng).words();
         if !rng.one_in(8) {
             book = books::damaged(rng, &book);
         }
@@ -233,11 +233,11 @@ fn the_program() {
             0 => MAX_ROWS,
             _ => books::some_rows(&mut rng, 60),
         };
-        let mut book = books::accepted(&mut rng, rows).words();
+        let mut book = books::accepted(&mut rng, 0, rows).words();
         if rng.one_in(3) {
             book = books::damaged(&mut rng, &book);
         }
-        if let Ok(day) = Day::read(&book) {
+        if let Ok(day) = Day::read(0, &book) {
             accepted.count(&book, &day);
         }
         let mut input = bytes(&mut rng, &book);

@@ -3,6 +3,7 @@ use outcomes::ListAnswer;
 use outcomes::OrderAnswer;
 use outcomes::VerdictAnswer;
 use row_calls::RowPlace;
+use schedule::Desk;
 
 // The number and the place of a refusal. Where the number is 0: a place or a count, an end, and a worst lateness in two's complement.
 pub struct Answer {
@@ -61,19 +62,19 @@ fn found(answer: RowPlace) -> Answer {
 }
 
 // A call that fills a result buffer: l, the list; o, the order of plan k; f, the order for the bound k, in two's complement.
-pub fn ask(call: u8, book: &[u32], k: u32, words: &mut [u32]) -> Answer {
+pub fn ask(call: u8, opening: u32, book: &[u32], k: u32, words: &mut [u32]) -> Answer {
     match call {
-        b'l' => listed(planner::list(book, words)),
-        b'o' => ordered(planner::order_of_plan(book, k, words)),
+        b'l' => listed(planner::list(opening, book, words)),
+        b'o' => ordered(planner::order_of_plan(opening, book, k, words)),
         _ => {
             let y = schedule::lower(std::num::wrapping_add_u32(k, 2_147_483_648));
-            ordered(planner::order_for_bound(book, y, words))
+            ordered(planner::order_for_bound(opening, book, y, words))
         }
     }
 }
 
-pub fn verdict(book: &[u32], posting: &[u32]) -> Answer {
-    judged(planner::verdict(book, posting))
+pub fn verdict(opening: u32, book: &[u32], posting: &[u32]) -> Answer {
+    judged(planner::verdict(opening, book, posting))
 }
 
 pub fn row_place(book: &[u32], k: u32) -> Answer {
@@ -112,13 +113,20 @@ fn no_words(a: Answer, words: &[u32]) -> Answer {
     a
 }
 
-// The refusal of a book, in which all calls have to agree.
-pub fn refusal(book: &[u32]) -> Answer {
+// The refusal by the calls that are told an opening, in which they have to agree.
+fn of_opening(opening: u32, book: &[u32]) -> Answer {
     let mut words = [0u32; 512];
-    let mut a = ask(b'l', book, 0, &mut words);
-    a = both(a, ask(b'o', book, 1, &mut words));
-    a = both(a, ask(b'f', book, 2_147_483_647, &mut words));
-    a = both(a, row_place(book, 1));
-    a = both(a, of_no_entries(verdict(book, &[])));
-    no_words(a, row_words(book, 1))
+    let mut a = ask(b'l', opening, book, 0, &mut words);
+    a = both(a, ask(b'o', opening, book, 1, &mut words));
+    a = both(a, ask(b'f', opening, book, 2_147_483_647, &mut words));
+    both(a, of_no_entries(verdict(opening, book, &[])))
+}
+
+// The refusal of a book, in which all calls have to agree; of an opening that is refused only those that are told it.
+pub fn refusal(opening: u32, book: &[u32]) -> Answer {
+    let a = of_opening(opening, book);
+    if Desk::OPENING < opening {
+        return a;
+    }
+    no_words(both(a, row_place(book, 1)), row_words(book, 1))
 }

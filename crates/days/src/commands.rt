@@ -45,8 +45,8 @@ fn filled(call: u8, a: Answer, words: &[u32], rows: usize) {
 }
 
 // The whole answer of a call, where its buffer is long enough for any.
-fn whole(call: u8, book: &[u32], k: u32, words: &mut [u32]) {
-    let a = asked::ask(call, book, k, words);
+fn whole(call: u8, opening: u32, book: &[u32], k: u32, words: &mut [u32]) {
+    let a = asked::ask(call, opening, book, k, words);
     if call == b'l' && a.number == 0 {
         say::text(b" plans");
     }
@@ -57,8 +57,8 @@ fn whole(call: u8, book: &[u32], k: u32, words: &mut [u32]) {
 }
 
 // The answer in brief, and how many words of the buffer hold what they held.
-fn into(call: u8, book: &[u32], k: u32, words: &mut [u32]) {
-    brief(call, asked::ask(call, book, k, words));
+fn into(call: u8, opening: u32, book: &[u32], k: u32, words: &mut [u32]) {
+    brief(call, asked::ask(call, opening, book, k, words));
     say::after(b"+", held(words));
 }
 
@@ -68,9 +68,9 @@ fn ask(call: u8, s: State, k: u32) {
     let size = s.size;
     let book = state::first(&s.book, s.length);
     if size < WHOLE {
-        into(call, book, k, &mut words[..size]);
+        into(call, s.opening, book, k, &mut words[..size]);
     } else {
-        whole(call, book, k, &mut words);
+        whole(call, s.opening, book, k, &mut words);
     }
 }
 
@@ -91,6 +91,7 @@ fn digest(s: State) {
 fn judge(s: State) {
     let posting = s.posting;
     let a = asked::verdict(
+        s.opening,
         state::first(&s.book, s.length),
         state::first(&posting, s.entries),
     );
@@ -119,7 +120,7 @@ fn row(s: State, k: u32) {
 
 // The refusal of a book, or that it is taken.
 fn test(s: State) {
-    let a = asked::refusal(state::first(&s.book, s.length));
+    let a = asked::refusal(s.opening, state::first(&s.book, s.length));
     let number = a.number;
     match number {
         0 => say::text(b" taken"),
@@ -166,7 +167,7 @@ fn broken(s: State, number: u32, place: usize) -> State {
 }
 
 fn is_hit(s: State, number: u32, place: usize) -> bool {
-    let a = asked::refusal(state::first(&s.book, s.length));
+    let a = asked::refusal(s.opening, state::first(&s.book, s.length));
     let back = if number == 8 { 3 } else { 0 };
     a.number == number && std::num::wrapping_add_usize(a.place, back) == place
 }
@@ -208,6 +209,7 @@ fn taken(s: State, v: u32) -> State {
         b'i' => t.size = v as usize,
         b'n' => t = state::rows(s, v),
         b's' => t = state::with(s, s.place, v),
+        b'u' => t.opening = v,
         _ => {}
     }
     t

@@ -19,8 +19,9 @@
 //     set W                 this word at the place          order K ..     the order of plan K
 //     into N                calls fill a buffer of N        digest         the list and the orders of plans 1 to 4
 //                           words; 600 is any               for Y ..       the order for the bound Y
-//     entries E ..          the posting                     judge          the verdict on the posting
-//     test                  is the book refused?            row K ..       the place and the words of row K
+//     using N               calls are told N opening        judge          the verdict on the posting
+//                           minutes, at first 0             row K ..       the place and the words of row K
+//     entries E ..          the posting                     test           is the book refused?
 //
 // A refusal is printed as number@place, a pair as (end lateness). Of a call into a buffer of N words only the pair or the count of plans is
 // printed, and then how many words of the buffer hold what they held.

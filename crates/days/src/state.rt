@@ -8,14 +8,15 @@ pub const WHOLE: usize = 600;
 
 const KIND: u32 = 536_870_912;
 
-// The book, its length and the posting; a place, the words of the result buffer, and by how much more each release and due rises than the
-// one above. The command that is read, whether the last byte was of a text, a comment, a word or a number, and the number's kind and
-// value.
+// The book, its length and the posting; the opening minutes, a place, the words of the result buffer, and by how much more each release and
+// due rises than the one above. The command that is read, whether the last byte was of a text, a comment, a word or a number, and the
+// number's kind and value.
 pub struct State {
     pub book: [u32; ROOM],
     pub length: usize,
     pub posting: [u32; 8],
     pub entries: usize,
+    pub opening: u32,
     pub place: usize,
     pub size: usize,
     pub rise: u32,
@@ -32,6 +33,7 @@ impl State {
             length: 0,
             posting: [0; 8],
             entries: 0,
+            opening: 0,
             place: 0,
             size: WHOLE,
             rise: 0,

@@ -52,19 +52,19 @@ fn judged(answer: VerdictAnswer) -> Answer {
     }
 }
 
-pub fn list(book: &[u32], words: &mut [u32]) -> Answer {
-    listed(planner::list(book, words))
+pub fn list(opening: u32, book: &[u32], words: &mut [u32]) -> Answer {
+    listed(planner::list(opening, book, words))
 }
 
-pub fn plan(book: &[u32], k: u32, words: &mut [u32]) -> Answer {
-    ordered(planner::order_of_plan(book, k, words))
+pub fn plan(opening: u32, book: &[u32], k: u32, words: &mut [u32]) -> Answer {
+    ordered(planner::order_of_plan(opening, book, k, words))
 }
 
 // The bound is raised by 2^31.
-pub fn bound(book: &[u32], y: u32, words: &mut [u32]) -> Answer {
-    ordered(planner::order_for_bound(book, schedule::lower(y), words))
+pub fn bound(opening: u32, book: &[u32], y: u32, words: &mut [u32]) -> Answer {
+    ordered(planner::order_for_bound(opening, book, schedule::lower(y), words))
 }
 
-pub fn verdict(book: &[u32], posting: &[u32]) -> Answer {
-    judged(planner::verdict(book, posting))
+pub fn verdict(opening: u32, book: &[u32], posting: &[u32]) -> Answer {
+    judged(planner::verdict(opening, book, posting))
 }

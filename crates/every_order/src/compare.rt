@@ -77,7 +77,7 @@ fn is_right(day: Day, front: Front, a: Answer, rows: [u32; 8], y: u32, number: u
 // The order for a bound.
 fn bound(book: &[u32], day: Day, front: Front, y: u32, t: Tally) -> Tally {
     let mut rows = [0u32; 8];
-    let a = asked::bound(book, y, &mut rows);
+    let a = asked::bound(day.opening, book, y, &mut rows);
     let mut u = tally::add(t, tally::BOUNDS, 1);
     u = tally::add_if(u, tally::UNKEPT, a.number != 0);
     checked(u, is_right(day, front, a, rows, y, 12), b'f', y)
@@ -87,7 +87,7 @@ fn bound(book: &[u32], day: Day, front: Front, y: u32, t: Tally) -> Tally {
 // place.
 fn plan(book: &[u32], day: Day, front: Front, k: u32, late: u32, t: Tally) -> Tally {
     let mut rows = [0u32; 8];
-    let a = asked::plan(book, k, &mut rows);
+    let a = asked::plan(day.opening, book, k, &mut rows);
     let is_placed = (a.number == 0) | (a.place == front.count);
     checked(
         t,
@@ -145,7 +145,7 @@ fn pairs(book: &[u32], day: Day, front: Front, words: [u32; 16], t: Tally) -> Ta
 // The list, the orders of its plans and of none, and the orders for bounds.
 fn plans(book: &[u32], day: Day, front: Front, t: Tally) -> Tally {
     let mut words = [0u32; 16];
-    let a = asked::list(book, &mut words);
+    let a = asked::list(day.opening, book, &mut words);
     let count = (front.count % 16) as u32;
     let mut u = checked(t, (a.number == 0) & (a.place == front.count), b'l', 0);
     u = plan(book, day, front, 0, 0, u);
@@ -170,7 +170,7 @@ fn first_beating(front: Front, end: u32, late: u32) -> usize {
 fn verdict(book: &[u32], day: Day, front: Front, code: u32, t: Tally) -> Tally {
     let rows = orders::order_at(day.count, code);
     let pair = orders::pair_of(day, rows);
-    let a = asked::verdict(book, day::first(&rows, day.count));
+    let a = asked::verdict(day.opening, book, day::first(&rows, day.count));
     let is_judged = (a.number == 0) & (a.place == first_beating(front, pair.end, pair.late));
     let mut u = tally::add(t, tally::VERDICTS, 1);
     u = tally::add_if(u, tally::UNBEATEN, (a.number == 0) & (a.place == 0));

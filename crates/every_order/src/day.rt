@@ -4,21 +4,22 @@ ghost use Prim.Native.Nat.{_≤_};
 // Stands for no class.
 const NO_CLASS: u32 = 8;
 
-// How many numbers of the line were read, and the last three; the words of the book. The free minute, pace and class; the rows by
-// release, length and due, the due of the last one, and the sum of the lengths. Whether some reading time is an exact half over whole
-// minutes, whether some length drops less than a half, whether a row is due before the row above it, and whether two rows are due at the
-// same minute.
+// How many numbers of the line were read, and the last three; the words of the book. The opening minutes; the free minute, pace and class;
+// the rows by release, time at the desk, which is opening plus length, and due, the due of the last one, and the sum of the times. Whether
+// some reading time is an exact half over whole minutes, whether some length drops less than a half, whether a row is due before the row
+// above it, and whether two rows are due at the same minute.
 pub struct Day {
     pub read: usize,
     pub last: [u32; 3],
     pub words: [u32; 36],
     pub size: usize,
+    pub opening: u32,
     pub free: u32,
     pub pace: u32,
     pub class: u32,
     pub count: usize,
     pub release: [u32; 8],
-    pub length: [u32; 8],
+    pub time: [u32; 8],
     pub due: [u32; 8],
     pub above: u32,
     pub total: u32,
@@ -29,18 +30,19 @@ pub struct Day {
 }
 
 impl Day {
-    pub fn new() -> Day {
+    pub fn new(opening: u32) -> Day {
         Day {
             read: 0,
             last: [0; 3],
             words: [0; 36],
             size: 0,
+            opening: opening,
             free: 0,
             pace: 0,
             class: 0,
             count: 0,
             release: [0; 8],
-            length: [0; 8],
+            time: [0; 8],
             due: [4_294_967_295; 8],
             above: 0,
             total: 0,
@@ -136,13 +138,13 @@ fn with_marks(day: Day, pages: u32, due: u32) -> Day {
 // The day with a row more.
 fn with_row(day: Day, release: u32, pages: u32, due: u32) -> Day {
     let n = day.count;
-    let length = length_of(pages, day.pace);
+    let time = std::num::wrapping_add_u32(day.opening, length_of(pages, day.pace));
     let mut more = with_marks(with_words(day, release, pages, due), pages, due);
     if n < 8 {
         more.release[n] = release;
-        more.length[n] = length;
+        more.time[n] = time;
         more.due[n] = due;
-        more.total = std::num::wrapping_add_u32(day.total, length);
+        more.total = std::num::wrapping_add_u32(day.total, time);
         more.count = n + 1;
     }
     more

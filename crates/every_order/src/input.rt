@@ -24,11 +24,11 @@ pub struct Input {
 }
 
 impl Input {
-    pub fn new() -> Input {
+    pub fn new(opening: u32) -> Input {
         Input {
             inside: NOTHING,
             value: 0,
-            day: Day::new(),
+            day: Day::new(opening),
             tally: Tally { counts: [0; 24] },
             printed: 0,
         }
@@ -90,7 +90,7 @@ fn line(s: Input) -> Input {
     }
     let mut t = s;
     let counted = compare::book(day, s.tally);
-    let none = Day::new();
+    let none = Day::new(day.opening);
     t.tally = counted;
     t.day = none;
     t

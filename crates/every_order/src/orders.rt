@@ -57,9 +57,9 @@ pub fn order_at(n: usize, code: u32) -> [u32; 8] {
 }
 
 // The pair with a row more: the row starts when it is released and the desk is free.
-fn after_row(pair: Pair, release: u32, length: u32, due: u32) -> Pair {
+fn after_row(pair: Pair, release: u32, time: u32, due: u32) -> Pair {
     let start = later(pair.end, release);
-    let end = std::num::wrapping_add_u32(start, length);
+    let end = std::num::wrapping_add_u32(start, time);
     let late = std::num::wrapping_sub_u32(std::num::wrapping_add_u32(end, RAISE), due);
     Pair {
         end: end,
@@ -75,7 +75,7 @@ fn later(a: u32, b: u32) -> u32 {
 // The end and the worst lateness of an order of rows, counted from 1, by the desk's own rules.
 pub fn pair_of(day: Day, order: [u32; 8]) -> Pair {
     let release = day.release;
-    let length = day.length;
+    let time = day.time;
     let due = day.due;
     let count = day::at_most(day.count, 8);
     let mut pair = Pair {
@@ -86,7 +86,7 @@ pub fn pair_of(day: Day, order: [u32; 8]) -> Pair {
     let mut k: usize = 0;
     while k < count {
         let i = (std::num::wrapping_sub_u32(order[k], 1) % 8) as usize;
-        pair = after_row(pair, release[i], length[i], due[i]);
+        pair = after_row(pair, release[i], time[i], due[i]);
         pair.taken = pair.taken | (1 << (order[k] % 32));
         k += 1;
     }

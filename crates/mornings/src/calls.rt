@@ -7,13 +7,20 @@ use desk_start::StartAnswer;
 use outcomes::ListAnswer;
 use outcomes::OrderAnswer;
 
-fn open(book: &[u32], desk: &mut [u32]) {
-    match open_desk::open(book, desk) {
+fn open(opening: u32, book: &[u32], desk: &mut [u32]) {
+    match open_desk::open(opening, book, desk) {
         OpenAnswer::Opened(rows, minute) => {
             say::number(b' ', rows as u64);
             say::number(b' ', minute as u64);
         },
         OpenAnswer::Refused(number, place) => say::refusal(number, place),
+    }
+}
+
+// The opening minutes stand before the words of the book.
+fn open_with(numbers: &[u32], desk: &mut [u32]) {
+    if 0 < numbers.len() {
+        open(numbers[0], &numbers[1..], desk);
     }
 }
 
@@ -45,7 +52,8 @@ pub fn call(letter: u8, words: &[u32], count: usize, desk: &mut [u32])
     requires { ⌜ length (now words) ≡ 64 ⌝ }
 {
     match letter {
-        b'n' => open(&words[..count % 65], desk),
+        b'g' => open_with(&words[..count % 65], desk),
+        b'n' => open(0, &words[..count % 65], desk),
         b'r' => order(desk, words[0], &mut [7u32; 9]),
         b's' => list(desk, &mut [7u32; 9]),
         b't' => start(desk, words[0], words[1]),

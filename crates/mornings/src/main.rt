@@ -1,10 +1,11 @@
 // Runs mornings on an open desk through its calls, for the stored output to be held against. The mornings stand on standard input, as a
 // text that is printed while it is read; after each `=` comes what the call before it answers:
 //
-//     W, .. open=      opens the desk with the book of these words: the count of rows and the desk's minute
-//     R, M, start=     starts row R at the minute M: the desk's new minute and the worst lateness so far
-//     plans=           lists the plans of the rows left: how many they are
-//     K, order=        the order of plan K: its end and worst lateness
+//     W, .. open=          opens the desk with the book of these words: the count of rows and the desk's minute
+//     O, W, .. opening=    opens it with O opening minutes; the other opens it with none
+//     R, M, start=         starts row R at the minute M: the desk's new minute and the worst lateness so far
+//     plans=               lists the plans of the rows left: how many they are
+//     K, order=            the order of plan K: its end and worst lateness
 //
 // A word of a book is written KIND:VALUE. A comma ends a number, and a call takes the numbers of its own line. Of its name only the last
 // letter counts. A refusal is printed as number@place. After a list or an order come the nine words of the buffer, which are 7 before it.

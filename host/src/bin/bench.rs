@@ -14,6 +14,8 @@ const SIZES: [usize; 4] = [8, 32, 128, 256];
 const PLANS: [usize; 5] = [2, 8, 32, 128, 230];
 const DESKS: [usize; 2] = [30, 256];
 const RUNS: usize = 9;
+/// The opening minutes that the calls are told: none.
+const OPENING: u32 = 0;
 const CALLS: [&str; 4] = [
     "list",
     "order for a bound",
@@ -64,32 +66,35 @@ fn measure(book: &[u32], day: &Day) -> [(f64, f64); CALLS.len()] {
     let posting: Vec<u32> = (1..=rows as u32).collect();
     let (mut a, mut b) = ([0; 2 * MAX_ROWS], [0; 2 * MAX_ROWS]);
 
-    assert_eq!(linked::list(book, &mut a), model::list(book, &mut b));
     assert_eq!(
-        linked::order_for_bound(book, bound, &mut a),
-        model::order_for_bound(book, bound, &mut b)
+        linked::list(OPENING, book, &mut a),
+        model::list(OPENING, book, &mut b)
+    );
+    assert_eq!(
+        linked::order_for_bound(OPENING, book, bound, &mut a),
+        model::order_for_bound(OPENING, book, bound, &mut b)
     );
     assert_eq!(a, b);
     assert_eq!(
-        linked::verdict(book, &posting),
-        model::verdict(book, &posting)
+        linked::verdict(OPENING, book, &posting),
+        model::verdict(OPENING, book, &posting)
     );
 
     let list = time(
-        || linked::list(black_box(book), &mut a),
-        || model::list(black_box(book), &mut b),
+        || linked::list(OPENING, black_box(book), &mut a),
+        || model::list(OPENING, black_box(book), &mut b),
     );
     let order = time(
-        || linked::order_for_bound(black_box(book), bound, &mut a),
-        || model::order_for_bound(black_box(book), bound, &mut b),
+        || linked::order_for_bound(OPENING, black_box(book), bound, &mut a),
+        || model::order_for_bound(OPENING, black_box(book), bound, &mut b),
     );
     let verdict = time(
-        || linked::verdict(black_box(book), &posting),
-        || model::verdict(black_box(book), &posting),
+        || linked::verdict(OPENING, black_box(book), &posting),
+        || model::verdict(OPENING, black_box(book), &posting),
     );
     let row = time(
         || linked::row_words(black_box(book), 1).map(|words| words.len()),
-        || model::row_place(black_box(book), 1),
+        || model::row_place(Profile::OrderingRule, black_box(book), 1),
     );
     [list, order, verdict, row]
 }
@@ -108,13 +113,13 @@ fn first_come(seed: u64) {
             }
             let book = day.words();
             let of_model = |result: &mut [u32]| {
-                Day::read_as(Profile::FirstCome, black_box(&book))?.list_into(result)
+                Day::read_as(Profile::FirstCome, OPENING, black_box(&book))?.list_into(result)
             };
             let (mut a, mut b) = ([0; 2 * MAX_ROWS], [0; 2 * MAX_ROWS]);
-            assert_eq!(linked::first_come::list(&book, &mut a), Ok(1));
+            assert_eq!(linked::first_come::list(OPENING, &book, &mut a), Ok(1));
             assert_eq!((of_model(&mut b), a), (Ok(1), b));
             let (archive, model) = time(
-                || linked::first_come::list(black_box(&book), &mut a),
+                || linked::first_come::list(OPENING, black_box(&book), &mut a),
                 || of_model(&mut b),
             );
             println!(
@@ -152,24 +157,29 @@ fn starts(opened: &[u32], row: u32, minute: u32) -> [(f64, f64); 2] {
 fn open_desk(name: &str, day: &Draft) {
     let (book, rows) = (day.words(), day.rows.len());
     let (mut opened, mut again) = ([0; DESK_WORDS], [0; DESK_WORDS]);
-    let minute = desk::open(&book, &mut opened).expect("accepted").minute;
+    let minute = desk::open(OPENING, &book, &mut opened)
+        .expect("accepted")
+        .minute;
     let (mut a, mut b) = ([0; 2 * MAX_ROWS], [0; 2 * MAX_ROWS]);
-    assert_eq!(desk::list(&opened, &mut a), linked::list(&book, &mut b));
+    assert_eq!(
+        desk::list(&opened, &mut a),
+        linked::list(OPENING, &book, &mut b)
+    );
     assert_eq!(a, b);
     desk::order_of_plan(&opened, 1, &mut a).expect("listed");
     let release = day.rows[a[0] as usize - 1].release as u32;
     let [start, refused] = starts(&opened, a[0], minute.max(release));
     let open = time(
-        || desk::open(black_box(&book), &mut again).is_ok(),
+        || desk::open(OPENING, black_box(&book), &mut again).is_ok(),
         || linked::row_words(black_box(&book), 1).is_ok(),
     );
     let list = time(
         || desk::list(black_box(&opened), &mut a),
-        || linked::list(black_box(&book), &mut b),
+        || linked::list(OPENING, black_box(&book), &mut b),
     );
     let order = time(
         || desk::order_of_plan(black_box(&opened), 1, &mut a),
-        || linked::order_of_plan(black_box(&book), 1, &mut b),
+        || linked::order_of_plan(OPENING, black_box(&book), 1, &mut b),
     );
     for (call, beside, (of_call, of_beside)) in [
         ("open", "reading the book alone", open),
@@ -187,19 +197,20 @@ fn main() {
     println!("Microseconds a call, median of {RUNS} runs, seed {seed:#x}. Below 1 in the last column: the archive is faster.\n");
     println!("| day | rows | plans | call | archive µs | model µs | archive / model |");
     println!("|---|---:|---:|---|---:|---:|---:|");
-    let typical = |rows: usize| books::typical_day(&mut Rng::for_case(seed, "bench", 1), rows);
+    let typical =
+        |rows: usize| books::typical_day(&mut Rng::for_case(seed, "bench", 1), OPENING, rows);
     let unsorted = |rows: usize| typical(rows).shuffled(&mut Rng::for_case(seed, "bench", 2));
     let days: [(&str, &dyn Fn(usize) -> Draft); 3] = [
         ("typical", &typical),
         ("typical, unsorted", &unsorted),
-        ("worst", &books::many_plans),
+        ("worst", &|rows| books::many_plans(OPENING, rows)),
     ];
     let mut growth = Vec::new();
     for (name, make) in days {
         let mut all = Vec::new();
         for rows in SIZES {
             let book = make(rows).words();
-            let day = Day::read(&book).expect("an accepted day");
+            let day = Day::read(OPENING, &book).expect("an accepted day");
             let plans = day.list().len();
             let times = measure(&book, &day);
             for (call, (archive, model)) in CALLS.iter().zip(times) {
@@ -216,13 +227,16 @@ fn main() {
     println!("| plans | archive µs | model µs | model / archive |");
     println!("|---:|---:|---:|---:|");
     for plans in PLANS {
-        let book = books::plans_among(MAX_ROWS, plans).words();
+        let book = books::plans_among(OPENING, MAX_ROWS, plans).words();
         let (mut a, mut b) = ([0; 2 * MAX_ROWS], [0; 2 * MAX_ROWS]);
-        assert_eq!(linked::list(&book, &mut a), model::list(&book, &mut b));
+        assert_eq!(
+            linked::list(OPENING, &book, &mut a),
+            model::list(OPENING, &book, &mut b)
+        );
         assert_eq!(a, b);
         let (archive, model) = time(
-            || linked::list(black_box(&book), &mut a),
-            || model::list(black_box(&book), &mut b),
+            || linked::list(OPENING, black_box(&book), &mut a),
+            || model::list(OPENING, black_box(&book), &mut b),
         );
         println!(
             "| {plans} | {archive:.2} | {model:.2} | {:.1} |",

@@ -5,10 +5,10 @@
 pub mod fault;
 pub mod fence;
 
-use jelvaksna::books::{self, Rng};
+use jelvaksna::books::{self, Rng, OPENINGS};
 use jelvaksna::linked::{first_come::plain as first_come, plain as standard, Answer};
-use jelvaksna::model::Day;
-use jelvaksna::{Pair, Profile, Refusal};
+use jelvaksna::model::{self, Day};
+use jelvaksna::{Pair, Profile, Refusal, MAX_OPENING};
 
 /// One call on a book that is lent beside it. `len` is the length of the result buffer.
 #[derive(Clone, Debug)]
@@ -30,36 +30,59 @@ impl Call {
         }
     }
 
+    /// The archive's answer, and the words of the result buffer after the call.
+    pub fn outcome(&self, case: Case, book: &[u32]) -> (Answer, Vec<u32>) {
+        let mut words = filled(self.len());
+        let answer = self.of_archive(case, book, self.posting(), &mut words);
+        (answer, words)
+    }
+
+    fn posting(&self) -> &[u32] {
+        match self {
+            Call::Verdict { posting } => posting,
+            _ => &[],
+        }
+    }
+
     /// The archive's answer. `posting` is the call's posting, where it is lent.
-    fn of_archive(
-        &self,
-        profile: Profile,
-        book: &[u32],
-        posting: &[u32],
-        result: &mut [u32],
-    ) -> Answer {
+    fn of_archive(&self, case: Case, book: &[u32], posting: &[u32], result: &mut [u32]) -> Answer {
+        let opening = case.opening;
         macro_rules! answer {
             ($of:ident) => {
                 match *self {
-                    Call::List { .. } => $of::list(book, result),
-                    Call::OrderForBound { bound, .. } => $of::order_for_bound(book, bound, result),
-                    Call::OrderOfPlan { plan, .. } => $of::order_of_plan(book, plan, result),
-                    Call::Verdict { .. } => $of::verdict(book, posting),
+                    Call::List { .. } => $of::list(opening, book, result),
+                    Call::OrderForBound { bound, .. } => {
+                        $of::order_for_bound(opening, book, bound, result)
+                    }
+                    Call::OrderOfPlan { plan, .. } => {
+                        $of::order_of_plan(opening, book, plan, result)
+                    }
+                    Call::Verdict { .. } => $of::verdict(opening, book, posting),
                     Call::RowPlace { row } => $of::row_place(book, row),
                 }
             };
         }
-        match profile {
+        match case.profile {
             Profile::OrderingRule => answer!(standard),
             Profile::FirstCome => answer!(first_come),
         }
     }
 
     /// The answer that the model calls for, on a book as the model reads it.
-    fn of_model(&self, day: &Result<Day, Refusal>, result: &mut [u32]) -> Answer {
-        let day = match day {
-            Ok(day) => day,
-            Err(refusal) => return refused(*refusal),
+    fn of_model(
+        &self,
+        case: Case,
+        book: &[u32],
+        day: &Result<Day, Refusal>,
+        result: &mut [u32],
+    ) -> Answer {
+        let day = match (day, self) {
+            (Ok(day), _) => day,
+            // The one call that is told no opening, and so does not refuse it.
+            (Err(_), &Call::RowPlace { row }) if case.opening > MAX_OPENING => {
+                return told(model::row_place(case.profile, book, row), of_place)
+            }
+            (Err(refusal), _) => return refused(*refusal),
         };
         match self {
             Call::List { .. } => told(day.list_into(result), |count| Answer {
@@ -74,11 +97,15 @@ impl Call {
                 count: plan.unwrap_or(0),
                 ..of_pair(pair)
             }),
-            Call::RowPlace { row } => told(day.row_place(*row), |place| Answer {
-                place,
-                ..Answer::default()
-            }),
+            Call::RowPlace { row } => told(day.row_place(*row), of_place),
         }
+    }
+}
+
+fn of_place(place: usize) -> Answer {
+    Answer {
+        place,
+        ..Answer::default()
     }
 }
 
@@ -102,10 +129,12 @@ pub fn of_pair(pair: Pair) -> Answer {
     }
 }
 
-/// Which case of which test is running, for the report of a failure, and the profile it calls.
+/// Which case of which test is running, for the report of a failure; the profile it calls, and the
+/// opening minutes that the calls are told.
 #[derive(Clone, Copy, Debug)]
 pub struct Case {
     pub profile: Profile,
+    pub opening: u32,
     pub seed: u64,
     pub test: &'static str,
     pub case: u64,
@@ -116,14 +145,40 @@ impl Case {
         Case::of(Profile::OrderingRule, test, case)
     }
 
+    /// With opening minutes by chance, now and then such that are refused.
     pub fn of(profile: Profile, test: &'static str, case: u64) -> Self {
         let seed = books::seed();
+        let opening = books::opening(&mut Rng::for_case(!seed, test, case), 12);
         Case {
             profile,
+            opening,
             seed,
             test,
             case,
         }
+    }
+
+    /// The same case with other opening minutes.
+    pub fn with_opening(self, opening: u32) -> Self {
+        Case { opening, ..self }
+    }
+
+    /// The same case with opening minutes that are accepted.
+    pub fn accepted(self) -> Self {
+        self.with_opening(self.accepted_opening())
+    }
+
+    /// The opening minutes for a maker of days, if need be other ones that are accepted.
+    pub fn accepted_opening(&self) -> u32 {
+        match self.opening {
+            0..=MAX_OPENING => self.opening,
+            _ => OPENINGS[self.case as usize % OPENINGS.len()],
+        }
+    }
+
+    /// The book as the model reads it.
+    pub fn read(&self, book: &[u32]) -> Result<Day, Refusal> {
+        Day::read_as(self.profile, self.opening, book)
     }
 
     pub fn rng(&self) -> Rng {
@@ -147,12 +202,13 @@ pub fn spelled(book: &[u32]) -> String {
 /// Prints a case whole and fails.
 pub fn fail(case: Case, book: &[u32], call: &dyn std::fmt::Debug, what: &str) -> ! {
     panic!(
-        "DIFFERENCE\n  JELVAKSNA_SEED={:#x}, test '{}', case {}\n  book {}\n  call {call:?}, {:?}\n{what}",
+        "DIFFERENCE\n  JELVAKSNA_SEED={:#x}, test '{}', case {}\n  book {}\n  call {call:?}, {:?}, opening {}\n{what}",
         case.seed,
         case.test,
         case.case,
         spelled(book),
-        case.profile
+        case.profile,
+        case.opening
     );
 }
 
@@ -172,12 +228,8 @@ pub fn compare(case: Case, book: &[u32], day: &Result<Day, Refusal>, call: &Call
     let within = MARGIN..MARGIN + call.len();
     let mut want_words = filled(call.len() + 2 * MARGIN);
     let mut have_words = want_words.clone();
-    let want = call.of_model(day, &mut want_words[within.clone()]);
-    let posting = match call {
-        Call::Verdict { posting } => &posting[..],
-        _ => &[],
-    };
-    let have = call.of_archive(case.profile, book, posting, &mut have_words[within]);
+    let want = call.of_model(case, book, day, &mut want_words[within.clone()]);
+    let have = call.of_archive(case, book, call.posting(), &mut have_words[within]);
     settle(case, book, call, (want, &want_words), (have, &have_words));
 }
 
@@ -210,15 +262,12 @@ pub fn compare_fenced(
 ) {
     fault::watch(case, book);
     let mut want_words = filled(call.len());
-    let want = call.of_model(day, &mut want_words);
-    let posting = match call {
-        Call::Verdict { posting } => &posting[..],
-        _ => &[],
-    };
+    let want = call.of_model(case, book, day, &mut want_words);
     for side in [fence::Side::End, fence::Side::Start] {
         let fresh = filled(call.len());
-        let (have, have_words, spilt) = fences.lend(side, book, posting, &fresh, |b, p, r| {
-            call.of_archive(case.profile, b, p, r)
+        let lent = call.posting();
+        let (have, have_words, spilt) = fences.lend(side, book, lent, &fresh, |b, p, r| {
+            call.of_archive(case, b, p, r)
         });
         settle(case, book, call, (want, &want_words), (have, &have_words));
         if spilt {
@@ -244,6 +293,8 @@ pub struct Accepted {
     /// With a reading time of an exact half over whole minutes.
     halves: u64,
     pub unsorted: u64,
+    /// With opening minutes.
+    opened: u64,
 }
 
 impl Accepted {
@@ -253,6 +304,7 @@ impl Accepted {
         self.classed += u64::from(day.has_classes());
         self.halves += u64::from(books::has_half(book));
         self.unsorted += u64::from(!day.is_sorted());
+        self.opened += u64::from(day.opening > 0);
     }
 
     /// If there are more than a few, a good part has class rows, a good part unsorted rows, and some
@@ -273,8 +325,9 @@ impl std::fmt::Display for Accepted {
             classed,
             halves,
             unsorted,
+            opened,
         } = self;
-        write!(f, "{books} accepted, {several} of several rows, {classed} with class rows, {halves} with exact halves, {unsorted} unsorted")
+        write!(f, "{books} accepted, {several} of several rows, {classed} with class rows, {halves} with exact halves, {unsorted} unsorted, {opened} with opening minutes")
     }
 }
 
@@ -284,15 +337,17 @@ pub fn each_call(
     test: &'static str,
     count: u64,
     effort: Effort,
-    mut make: impl FnMut(&mut Rng, u64) -> Vec<u32>,
+    mut make: impl FnMut(&mut Rng, Case) -> Vec<u32>,
     mut compare: impl FnMut(Case, &[u32], &Result<Day, Refusal>, &Call),
 ) {
     let (mut made, mut plans, mut accepted) = (0, 0, Accepted::default());
+    let mut unopened = 0;
     for i in 0..count {
         let case = Case::of(profile, test, i);
+        unopened += u64::from(case.opening > MAX_OPENING);
         let mut rng = case.rng();
-        let book = make(&mut rng, i);
-        let day = Day::read_as(profile, &book);
+        let book = make(&mut rng, case);
+        let day = case.read(&book);
         for call in calls(&mut rng, &day, effort) {
             compare(case, &book, &day, &call);
             made += 1;
@@ -304,9 +359,11 @@ pub fn each_call(
     }
     let seed = books::seed();
     println!(
-        "{test}: seed {seed:#x}, {count} books, {accepted}, at most {plans} plans, {made} calls"
+        "{test}: seed {seed:#x}, {count} books, {accepted}, at most {plans} plans, {unopened} refused for the opening, {made} calls"
     );
     accepted.check(test);
+    assert!(accepted.books < 100 || accepted.opened > accepted.books / 2);
+    assert!(count < 200 || unopened > count / 30);
 }
 
 /// Calls that suit a book: buffers that fit, that are one too short, longer or empty, bounds around

@@ -6,10 +6,10 @@ use Rattle.every_order.proofs.orders.pair_of.Statement.{statement}
 use Rattle.every_order.proofs.orders.pair_of.Tie as tie
 
 abbrev Inv-loop : tie.InvT-loop
-Inv-loop order release length due count pair₀ k₀ pair k = (k ≤ count) × (count ≤ 8)
+Inv-loop order release time due count pair₀ k₀ pair k = (k ≤ count) × (count ≤ 8)
 
 abbrev μ-loop : tie.MeasureT-loop
-μ-loop order release length due count pair₀ k₀ pair k = count - k
+μ-loop order release time due count pair₀ k₀ pair k = count - k
 
 at-most-requires : tie.Need-at-most-requires Inv-loop μ-loop
 at-most-requires c κs = search needs

@@ -7,6 +7,12 @@ use lib.Seq.{length-take-le}
 use Rattle.mornings.proofs.calls.call.Statement.{statement}
 use Rattle.mornings.proofs.calls.call.Tie as tie
 
+slice-aggregate-open-with : tie.Need-slice-aggregate-open-with
+slice-aggregate-open-with c = sym (length-take-le _ _ (omega arith))
+
+open-with-requires : tie.Need-open-with-requires
+open-with-requires c κs = search needs
+
 slice-aggregate-open : tie.Need-slice-aggregate-open
 slice-aggregate-open c = sym (length-take-le _ _ (omega arith))
 
@@ -61,13 +67,21 @@ same-length-4 c = search needs
 returns-4 : tie.Need-returns-4
 returns-4 c = search needs
 
+same-length-5 : tie.Need-same-length-5
+same-length-5 c = search needs
+
 returns-5 : tie.Need-returns-5
 returns-5 c = search needs
+
+returns-6 : tie.Need-returns-6
+returns-6 c = search needs
 
 pub call-spec : {M : Type 1} → statement M
 call-spec =
     tie.close
     (tie.spec
+    slice-aggregate-open-with
+    open-with-requires
     slice-aggregate-open
     open-requires
     shared-slice-read-order
@@ -86,4 +100,6 @@ call-spec =
     returns-3
     same-length-4
     returns-4
-    returns-5)
+    same-length-5
+    returns-5
+    returns-6)
