@@ -13,7 +13,8 @@ use Rattle.outcomes.specs.declared.OrderAnswer.the-variants as order-answer
 use Rattle.outcomes.specs.declared.VerdictAnswer.the-variants as verdict-answer
 use Rattle.outcomes.specs.Outcomes.{listOutcome, orderOutcome, planOutcome, verdictOutcome}
 use Rattle.outcomes.specs.Planning.{gives}
-use Rattle.calls.specs.Calls.{planned, listCall, boundCall, planCall, verdictCall}
+use Rattle.calls.specs.Planned.{planned}
+use Rattle.calls.specs.Calls.{listCall, boundCall, planCall, verdictCall}
 
 -- A refused book turns every call down.
 module _ (terms : Terms) (book : List ℕ) (n p : ℕ) (reads : readBy terms book ≡ refused n p) where

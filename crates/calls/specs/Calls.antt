@@ -1,26 +1,22 @@
 -- The whole outcome of each offered call: from what it is told and lent to its answer and the buffer's contents at exit.
--- The refusals of the book come first. Rests on: the readers, the outcomes of what is planned.
+-- The refusals of the opening and the book come first. Rests on: the readers, Planned, the outcomes of what is planned.
 use Prim.Native.Nat.{ℕ}
 use mathlib.Core.List.{List}
 use lib.IntN.{ℤ}
-use Rattle.schedule.specs.Rows.{Day}
 use Rattle.book.specs.Rows.{refused, accepted}
 use Rattle.readers.specs.declared.Terms.{Terms}
 use Rattle.readers.specs.Reads.{readBy}
 use Rattle.outcomes.specs.Outcomes.{listOutcome, orderOutcome, planOutcome, verdictOutcome, openOutcomes}
-use Rattle.outcomes.specs.Planning.{Outcome, gives, Planning, planningOf}
+use Rattle.outcomes.specs.Planning.{Outcome, gives}
 use Rattle.outcomes.specs.declared.ListAnswer.{ListAnswer}
 use Rattle.outcomes.specs.declared.ListAnswer.the-variants as list-answer
 use Rattle.outcomes.specs.declared.OrderAnswer.{OrderAnswer}
 use Rattle.outcomes.specs.declared.OrderAnswer.the-variants as order-answer
 use Rattle.outcomes.specs.declared.VerdictAnswer.{VerdictAnswer}
 use Rattle.outcomes.specs.declared.VerdictAnswer.the-variants as verdict-answer
+use Rattle.calls.specs.Planned.{planned}
 
--- What is planned of a day, by what a call is told.
-abbrev pub planned : Terms → Day → Planning
-planned terms day = planningOf (terms .profile) (terms .opening) day
-
--- The offered calls, by what they are told: the refusal of the book, or what the day that it gives comes to.
+-- The offered calls, by what they are told: the refusal of the opening or the book, or what the day that it gives comes to.
 module _ (terms : Terms) (book : List ℕ) where
   unfoldable pub listCall : (buffer : List ℕ) → Outcome ListAnswer
   listCall b = elim (readBy terms book) [

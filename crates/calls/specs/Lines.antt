@@ -11,7 +11,7 @@ use Rattle.schedule.specs.Desk.{Pair}
 use Rattle.book.specs.Rows.{refused, accepted}
 use Rattle.readers.specs.declared.Terms.{Terms}
 use Rattle.readers.specs.Reads.{readBy}
-use Rattle.calls.specs.Calls.{planned}
+use Rattle.calls.specs.Planned.{planned}
 
 -- `plan K end E late L order N N ..`: K is the line's place among its like, from 1.
 pub record Line : Type 0 where

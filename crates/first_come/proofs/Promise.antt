@@ -14,15 +14,15 @@ use Rattle.schedule.proofs.Opening.{opening-laws}
 use Rattle.book.specs.Rows.{accepted}
 use Rattle.readers.specs.Reads.{orderingRule, firstCome, readBy}
 use Rattle.readers.specs.Accepted.{AcceptedDay}
-use Rattle.readers.proofs.Contents.{same-day}
-use Rattle.readers.proofs.Accepted.{words-gave, accepted-day}
+use Rattle.readers.proofs.Accepted.{accepted-day}
+use Rattle.readers.proofs.OneDay.{one-day}
 use Rattle.results.specs.Results.{written, planWords}
 use Rattle.outcomes.specs.declared.ListAnswer.the-variants as list-answer
 use Rattle.outcomes.specs.Outcomes.{listOutcome}
 use Rattle.outcomes.specs.Planning.{gives, Planning}
 use Rattle.outcomes.proofs.OutcomeLaws.{list-narrow, list-is}
 use Rattle.calls.specs.Answers.{saidList}
-use Rattle.calls.specs.Calls.{planned}
+use Rattle.calls.specs.Planned.{planned}
 use Rattle.calls.proofs.CallLaws.{list-of}
 use Rattle.promises.specs.Vocabulary.{told, list, Takes}
 use Rattle.promises.specs.Promise.{Property1, Property2, Property3}
@@ -82,8 +82,7 @@ pub one-plan-holds : OnePlanHolds
 one-plan-holds = record {
   one-plan = one-plan;
   same-day = λ book day other a b.
-      same-day (sym (words-gave FirstCome book day (accepts FirstCome book day .1 a)) ∙
-      words-gave Ordering book other (accepts Ordering book other .1 b));
+      one-day FirstCome Ordering book day other (accepts FirstCome book day .1 a) (accepts Ordering book other .1 b);
   same-list = λ opening book day a b.
       same-list opening book day (takes (firstCome opening) book day .1 a) (takes (orderingRule opening) book day .1 b);
 }

@@ -40,7 +40,7 @@ use Rattle.outcomes.specs.Planning.{gives, Planning}
 use Rattle.outcomes.proofs.Sound.{Sound}
 use Rattle.outcomes.proofs.OutcomeLaws.{order-some}
 use Rattle.calls.specs.Answers.{saidList, saidOrder, saidVerdict, saidPlace}
-use Rattle.calls.specs.Calls.{planned}
+use Rattle.calls.specs.Planned.{planned}
 use Rattle.calls.proofs.CallLaws.{list-refused, bound-refused, plan-refused, verdict-refused, list-of, bound-of, plan-of, verdict-of}
 use Rattle.promises.specs.Vocabulary as calls
 use Rattle.promises.specs.Vocabulary.{told, Accepts, Takes, Refuses}

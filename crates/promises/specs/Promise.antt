@@ -30,7 +30,7 @@ use Rattle.readers.specs.Reads.{withoutOpening, readBy}
 use Rattle.results.specs.Results.{written, planWords, orZero}
 use Rattle.outcomes.specs.Planning.{Outcome, gives, nth, Planning}
 use Rattle.calls.specs.Answers.{Said, saidNo}
-use Rattle.calls.specs.Calls.{planned}
+use Rattle.calls.specs.Planned.{planned}
 use Rattle.promises.specs.Vocabulary.{saidCount, saidPair, saidJudged, saidAt, Refuses, listed, ReaderOrder, endBy, lateBy, pairBy}
 use Rattle.promises.specs.Vocabulary.{list, bound, plan, verdict, place, words, NoneBeats, EndsSooner, LessLate, Accepts, Takes}
 use Rattle.promises.specs.Table.{Turned, ListTurned, BoundTurned, PlanTurned, VerdictTurned, RowTurned}

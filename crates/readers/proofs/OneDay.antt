@@ -3,7 +3,7 @@
 use mathlib.Core.Path.{sym, _∙_}
 use Rattle.readers.specs.OneDay.{OneDay}
 use Rattle.readers.proofs.Contents.{same-day}
-use Rattle.readers.proofs.Accepted.{read-words-gave}
+use Rattle.readers.proofs.Accepted.{words-gave}
 
 pub one-day : OneDay
-one-day s t book d e p q = same-day (sym (read-words-gave s book d p) ∙ read-words-gave t book e q)
+one-day p q book d e x y = same-day (sym (words-gave p book d x) ∙ words-gave q book e y)

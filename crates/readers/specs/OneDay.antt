@@ -3,11 +3,11 @@
 use Prim.Native.Nat.{ℕ}
 use mathlib.Core.Path.{_≡_}
 use mathlib.Core.List.{List}
+use Rattle.schedule.specs.declared.Profile.{Profile}
 use Rattle.schedule.specs.Rows.{Day}
 use Rattle.book.specs.Rows.{accepted}
-use Rattle.readers.specs.declared.Terms.{Terms}
-use Rattle.readers.specs.Reads.{readBy}
+use Rattle.readers.specs.Reads.{readFor}
 
 -- Profiles differ in what they refuse, not in what they read: two that accept a book have the same free minute and the same rows of it.
 abbrev pub OneDay : Type 0
-OneDay = (s t : Terms) (book : List ℕ) (d e : Day) → readBy s book ≡ accepted d → readBy t book ≡ accepted e → d ≡ e
+OneDay = (p q : Profile) (book : List ℕ) (d e : Day) → readFor p book ≡ accepted d → readFor q book ≡ accepted e → d ≡ e

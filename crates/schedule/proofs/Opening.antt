@@ -43,6 +43,10 @@ module _ (opening : ℕ) (job : ℕ → Job) where
   lates-at : (i t : ℕ) → lateness (openedJob opening job) t i ≡ subℕ (max t (job i .release) + opening + job i .length) (job i .due)
   lates-at i t = ap (λ (end : ℕ). subℕ end (job i .due)) (ends-at i t)
 
+  unopened : opening ≡ 0 → (i : ℕ) → openedJob opening job i ≡ job i
+  unopened e i = let own : opening + job i .length ≡ job i .length = omega arith in
+      λ x. record { release = job i .release; length = own x; due = job i .due }
+
   raised-end : (i : ℕ) → earliestEnd (openedJob opening job i) ≡ opening + earliestEnd (job i)
   raised-end i = omega arith
 
@@ -73,6 +77,7 @@ pub opening-laws : OpeningHolds
 opening-laws opening job = record {
   ends = ends-at opening job;
   lates = lates-at opening job;
+  none = unopened opening job;
   rule = rules opening job;
   rank = ranks opening job;
   arrival = arrives opening job;

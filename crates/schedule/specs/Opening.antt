@@ -24,6 +24,8 @@ module _ (opening : ℕ) (job : ℕ → Job) where
     pub ends : (i t : ℕ) → finish (openedJob i) t ≡ max t (job i .release) + opening + job i .length
     -- It is late by that less its own due, which counts no opening, be it a class due or not.
     pub lates : (i t : ℕ) → lateness openedJob t i ≡ subℕ (max t (job i .release) + opening + job i .length) (job i .due)
+    -- With no opening, planning sees the rows as they are.
+    pub none : opening ≡ 0 → (i : ℕ) → openedJob i ≡ job i
     -- Neither disorder nor crossing counts opening: with one opening for all rows no comparison of spares changes, and releases and dues
     -- are the rows' own. So rows keep the rule with opening exactly if they keep it without.
     pub rule : (profile : Profile) (left : List ℕ) → Obeys profile openedJob left ↔ Obeys profile job left
