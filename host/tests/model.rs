@@ -727,7 +727,11 @@ fn against_every_order(test: &str, books: u64, least: usize, most: usize) {
         let beaten = every.iter().any(|other| other.beats(pair));
         assert_eq!(plan.is_some(), beaten, "{posting:?}, {context}");
     }
-    println!("{test}: seed {seed:#x}, {books} books of {least} to {most} rows, {several} with several plans, {opened} of them with opening minutes, {classed} with class rows, {unsorted} unsorted, {unkept} unkept bounds");
+    println!(
+        "{test}: seed {seed:#x}, {books} books of {least} to {most} rows, {several} with several plans, \
+         {opened} of them with opening minutes, {classed} with class rows, {unsorted} unsorted, \
+         {unkept} unkept bounds"
+    );
     assert!(several > books / 20 && unkept > 0 && classed > books / 5 && unsorted > books / 4);
     assert!(opened > several / 2);
 }

@@ -8,8 +8,8 @@ pub const WHOLE: usize = 600;
 
 const KIND: u32 = 536_870_912;
 
-// The book, its length and the posting; the opening minutes, a place, the words of the result buffer, and by how much more each release and
-// due rises than the one above. The command that is read, whether the last byte was of a text, a comment, a word or a number, and the
+// The book, its length and the posting; the opening minutes, a place, the words of the result buffer, and by how much more each release
+// and due rises than the one above. The command that is read, whether the last byte was of a text, a comment, a word or a number, and the
 // number's kind and value.
 pub struct State {
     pub book: [u32; ROOM],

@@ -24,6 +24,7 @@ pub struct Input {
 }
 
 impl Input {
+    // With nothing counted yet of books with so many opening minutes.
     pub fn new(opening: u32) -> Input {
         Input {
             inside: NOTHING,
@@ -82,11 +83,15 @@ fn ended(s: Input) -> Input {
     t
 }
 
-// The end of a line: its book, where it has one.
+// The end of a line: its book, or the opening minutes, where it has either.
 fn line(s: Input) -> Input {
     let day = s.day;
     if day.read == 0 {
         return s;
+    }
+    if day.read == 1 {
+        let last = day.last;
+        return Input::new(last[2]);
     }
     let mut t = s;
     let counted = compare::book(day, s.tally);

@@ -11,12 +11,6 @@ pub fn count(n: u32) {
     byte(b'\n');
 }
 
-// The opening minutes of what comes next.
-pub fn opening(n: u32) {
-    io::write_all(STDOUT_FILENO, b"with opening ");
-    count(n);
-}
-
 fn number(n: u32) {
     io::print_decimal(STDOUT_FILENO, n as u64);
     byte(b' ');

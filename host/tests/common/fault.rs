@@ -80,6 +80,8 @@ extern "C" fn report(signal: c_int) {
         say_number(case.case);
         say(b", JELVAKSNA_SEED=");
         say_number(case.seed);
+        say(b", opening ");
+        say_number(case.opening.into());
         say(b", book of ");
         say_number(len as u64);
         say(b" words [");

@@ -327,7 +327,11 @@ impl std::fmt::Display for Accepted {
             unsorted,
             opened,
         } = self;
-        write!(f, "{books} accepted, {several} of several rows, {classed} with class rows, {halves} with exact halves, {unsorted} unsorted, {opened} with opening minutes")
+        write!(
+            f,
+            "{books} accepted, {several} of several rows, {classed} with class rows, \
+             {halves} with exact halves, {unsorted} unsorted, {opened} with opening minutes"
+        )
     }
 }
 
@@ -359,7 +363,8 @@ pub fn each_call(
     }
     let seed = books::seed();
     println!(
-        "{test}: seed {seed:#x}, {count} books, {accepted}, at most {plans} plans, {unopened} refused for the opening, {made} calls"
+        "{test}: seed {seed:#x}, {count} books, {accepted}, at most {plans} plans, \
+         {unopened} refused for the opening, {made} calls"
     );
     accepted.check(test);
     assert!(accepted.books < 100 || accepted.opened > accepted.books / 2);

@@ -7,10 +7,10 @@ use Rattle.every_order.proofs.run.Statement.{statement}
 use Rattle.every_order.proofs.run.Tie as tie
 
 abbrev Inv-loop : tie.InvT-loop
-Inv-loop opening bytes s₀ i₀ s i = i ≤ length bytes
+Inv-loop bytes s₀ i₀ s i = i ≤ length bytes
 
 abbrev μ-loop : tie.MeasureT-loop
-μ-loop opening bytes s₀ i₀ s i = length bytes - i
+μ-loop bytes s₀ i₀ s i = length bytes - i
 
 new-requires : tie.Need-new-requires Inv-loop μ-loop
 new-requires c κs = search needs
