@@ -7,5 +7,5 @@ pub mod Accepted
 pub mod Settled
 pub mod OneClass
 pub mod Readings
-pub mod Seen
+pub mod Timing
 pub mod OneDay

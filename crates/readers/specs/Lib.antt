@@ -1,5 +1,6 @@
 pub mod Rules
 pub mod Seconds
+pub mod Times
 pub mod Reads
 pub mod Accepted
 pub mod Settled

@@ -1,15 +1,15 @@
 // The readers of both profiles: a book by the terms of a call, as its rows in columns or the refusal.
 ghost use mathlib.Core.Path.{_≡_};
-ghost use Prim.Native.Nat.{ℕ, _+_, _≤_};
+ghost use Prim.Native.Nat.{ℕ, _≤_};
 ghost use lib.ListN.{length};
 ghost use Rattle.schedule.specs.Limits.{mostRows, rowPlaces, latestMinute, longestLength, longestTime, latestDue, mostOpening};
 ghost use Rattle.schedule.specs.Columns.{at, columns};
-ghost use Rattle.schedule.specs.Filled.{Filled, from};
 ghost use Rattle.refusals.specs.Refusals.{byRange};
 ghost use Rattle.refusals.specs.declared.Tested.the-variants.{Refused};
 ghost use Rattle.rows.specs.InColumns.{Within};
 ghost use Rattle.readers.specs.Rules.{numberBy};
 ghost use Rattle.readers.specs.Seconds.{secondBy, JobsTested};
+ghost use Rattle.readers.specs.Times.{Timed};
 ghost use Rattle.readers.specs.Reads.{readBy, Gives};
 use refusals::Tested;
 use rows::Columns;
@@ -78,19 +78,17 @@ pub fn rule_tests<'a>(
     pairs::pair_tests(due, &seconds, count, number_of(profile))
 }
 
-// The time that each of the first n rows takes at the desk: opening plus length.
-fn times(opening: u32, minutes: &[u32; Desk::PLACES], n: usize) -> [u32; Desk::PLACES]
+// The times that the first n rows take at the desk, in the place of their lengths: the opening is added to each.
+fn add_opening(opening: u32, minutes: &mut [u32; Desk::PLACES], n: usize)
     requires { ⌜ (opening ≤ mostOpening) × (n ≤ mostRows) × (length (now minutes) ≡ rowPlaces)
         × ((i : ℕ) → at (now minutes) i ≤ longestLength) ⌝ }
-    ensures { λ r. ⌜ Filled rowPlaces (from 1) (λ k. opening + at (now (minutes .entry)) (k + 1)) n r ⌝ }
+    ensures { λ _. ⌜ Timed opening n (now (minutes .entry)) (now (minutes .exit)) ⌝ }
 {
-    let mut taken: [u32; Desk::PLACES] = [0; Desk::PLACES];
     let mut i = 0;
     while i < n {
         i += 1;
-        taken[i] = opening + minutes[i];
+        minutes[i] = opening + minutes[i];
     }
-    taken
 }
 
 // What is given where the opening is refused: nothing of the book.
@@ -123,7 +121,7 @@ pub fn read(terms: Terms, book: &[u32]) -> Given
     let words = all.outcome;
     let free = all.table.free;
     let count = all.table.count;
-    let columns = rows::columns_in(all.table);
+    let mut columns = rows::columns_in(all.table);
     let profile = terms.profile;
     let rule = rule_tests(
         profile,
@@ -133,15 +131,11 @@ pub fn read(terms: Terms, book: &[u32]) -> Given
         count,
     );
     let outcome = refusals::then(words, rule);
-    let minutes = times(opening, &columns.length, count);
+    add_opening(opening, &mut columns.length, count);
     Given {
         outcome: outcome,
         free: free,
         count: count,
-        columns: Columns {
-            release: columns.release,
-            length: minutes,
-            due: columns.due,
-        },
+        columns: columns,
     }
 }

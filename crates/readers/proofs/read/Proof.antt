@@ -1,19 +1,18 @@
 -- `read` meets its contract: opening minutes past the most are refused; else the table of tests 1 to 7, its rows in columns, the rule of
 -- the profile over these, and the times that the rows take at the desk. Assumes nothing.
-use Prim.Native.Nat.{ℕ, _+_}
+use Prim.Native.Nat.{ℕ}
 use native.Mathlib.Omega.{arith}
 use mathlib.Core.Path.{subst, sym}
 use borrow.Author.Needs.{needs}
 use denote.Ref.{now}
-use Rattle.schedule.specs.Limits.{rowPlaces, latestMinute, longestLength, longestTime, latestDue}
-use Rattle.schedule.specs.Columns.{at}
-use Rattle.schedule.specs.Filled.{Filled, from}
+use Rattle.schedule.specs.Limits.{latestMinute, longestLength, longestTime, latestDue}
 use Rattle.refusals.specs.Refusals.{byRange}
 use Rattle.book.specs.Tables.{tableRows}
 use Rattle.book.proofs.Readings.{Fits, read-fits}
+use Rattle.readers.specs.Times.{Timed}
 use Rattle.readers.proofs.Told.{untold-refused}
 use Rattle.readers.proofs.Readings.{gives, gives-refused}
-use Rattle.readers.proofs.Seen.{seen-in}
+use Rattle.readers.proofs.Timing.{seen-in}
 use Rattle.readers.proofs.read.Statement.{statement}
 use Rattle.readers.proofs.read.Tie as tie
 
@@ -46,27 +45,25 @@ rule-tests-requires c κs =
 then-requires : tie.Need-then-requires
 then-requires c κs = search needs
 
-times-requires : tie.Need-times-requires
-times-requires c κs =
-    let f = fits (c .before .before .before .before .before .before .before .before .before) in
-    let k = c .before .before .before .before .before .before .before .before .columns-in .ensures in
+add-opening-requires : tie.Need-add-opening-requires
+add-opening-requires c κs =
+    let f = fits (c .before .before .before .before .before .before .before .before) in
+    let k = c .before .before .before .before .before .before .before .columns-in .ensures in
     (omega arith, f .few, k .lengths, λ i. k .within latestMinute longestLength latestDue (f .limited) i .1)
 
 returns-2 : tie.Need-returns-2
 returns-2 c =
-    let w = c .before .before .before .before .before .before .before .before .before .before .before .before in
+    let w = c .before .before .before .before .before .before .before .before .before in
     let a = w .before .before .before .args in
     let r = w .read-words in
     let rows = tableRows (r .result .table) in
     let f = fits w in
-    let k = c .before .before .before .before .before .before .before .before .before .before .before .columns-in in
-    let o = c .before .before .before .before .before .before .rule-tests in
-    let then = c .before .before .before .before .before .then in
-    let times = c .before .before .times in
-    let filled = subst
-    (λ (n : ℕ). Filled rowPlaces (from 1) (λ i. a .terms .opening + at (k .result .length) (i + 1)) n (times .result))
-    (sym (f .size)) (times .ensures) in
-    let seen = seen-in (a .terms .opening) rows (k .result) (k .ensures) (times .result) filled in
+    let k = c .before .before .before .before .before .before .before .before .columns-in in
+    let o = c .before .before .before .rule-tests in
+    let then = c .before .before .then in
+    let times = c .add-opening .last .1 .0 in
+    let timed = subst (λ (n : ℕ). Timed (a .terms .opening) n (k .result .length) times) (sym (f .size)) (c .add-opening .ensures) in
+    let seen = seen-in (a .terms .opening) rows (k .result) (k .ensures) times timed in
     let tested = o .ensures rows (f .size) (λ i l m. k .ensures .jobs i l (omega (arith, f .size))) in
     gives (a .terms) (now (a .book)) (omega arith) (r .result) (r .ensures) _ seen (o .result) tested (then .result) (then .ensures)
 
@@ -80,5 +77,5 @@ read-spec =
     columns-in-requires
     rule-tests-requires
     then-requires
-    times-requires
+    add-opening-requires
     returns-2)
