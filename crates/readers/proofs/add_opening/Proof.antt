@@ -46,7 +46,7 @@ loop-again : tie.Need-loop-again Inv-loop μ-loop
 loop-again c =
     let s = c .before .before .before in
     let l = c .before .before .loop in
-    (omega arith, timed-on (s .args .opening) (l .i) (s .args .minutes .now) (l .minutes) (s .pre .2) (omega (arith, s .pre .1)) (l .inv .1))
+    (omega arith, timed-on (s .args .opening) (l .i) _ (l .minutes) (s .pre .2) (omega (arith, s .pre .1)) (l .inv .1))
 
 returns : tie.Need-returns Inv-loop μ-loop
 returns c =
