@@ -4,8 +4,6 @@ ghost use Prim.Native.Nat.{ℕ, _≤_};
 ghost use lib.ListN.{length};
 ghost use Rattle.schedule.specs.Limits.{mostRows, rowPlaces, latestMinute, longestLength, longestTime, latestDue, mostOpening};
 ghost use Rattle.schedule.specs.Columns.{at, columns};
-ghost use Rattle.refusals.specs.Refusals.{byRange};
-ghost use Rattle.refusals.specs.declared.Tested.the-variants.{Refused};
 ghost use Rattle.rows.specs.InColumns.{Within};
 ghost use Rattle.readers.specs.Rules.{numberBy};
 ghost use Rattle.readers.specs.Seconds.{secondBy, JobsTested};
@@ -91,32 +89,12 @@ fn add_opening(opening: u32, minutes: &mut [u32; Desk::PLACES], n: usize)
     }
 }
 
-// What is given where the opening is refused: nothing of the book.
-fn unread() -> Given
-    ensures { λ r. ⌜ r .outcome ≡ Refused byRange 0 ⌝ }
-{
-    let none: [u32; Desk::PLACES] = [0; Desk::PLACES];
-    Given {
-        outcome: Tested::Refused(Tested::RANGE, 0),
-        free: 0,
-        count: 0,
-        columns: Columns {
-            release: none,
-            length: none,
-            due: none,
-        },
-    }
-}
-
-// What a book gives by the terms: the opening, then tests 1 to 7, then the rule of the profile, which counts no opening. (A book that is
-// refused before has no rows to test.)
-pub fn read(terms: Terms, book: &[u32]) -> Given
+// What a book gives by terms whose opening is in its range: tests 1 to 7, then the rule of the profile, which counts no opening. (A book that
+// is refused before has no rows to test.)
+fn read_told(terms: Terms, book: &[u32]) -> Given
+    requires { ⌜ terms .opening ≤ mostOpening ⌝ }
     ensures { λ r. ⌜ Gives (terms .opening) (readBy terms (now (book .entry))) r ⌝ }
 {
-    let opening = terms.opening;
-    if Desk::OPENING < opening {
-        return unread();
-    }
     let all = book::read_words(book);
     let words = all.outcome;
     let free = all.table.free;
@@ -131,11 +109,31 @@ pub fn read(terms: Terms, book: &[u32]) -> Given
         count,
     );
     let outcome = refusals::then(words, rule);
-    add_opening(opening, &mut columns.length, count);
+    add_opening(terms.opening, &mut columns.length, count);
     Given {
         outcome: outcome,
         free: free,
         count: count,
         columns: columns,
+    }
+}
+
+// What a book gives by the terms: the opening is tested before the book is looked at.
+pub fn read(terms: Terms, book: &[u32]) -> Given
+    ensures { λ r. ⌜ Gives (terms .opening) (readBy terms (now (book .entry))) r ⌝ }
+{
+    if terms.opening <= Desk::OPENING {
+        return read_told(terms, book);
+    }
+    let none: [u32; Desk::PLACES] = [0; Desk::PLACES];
+    Given {
+        outcome: Tested::Refused(Tested::RANGE, 0),
+        free: 0,
+        count: 0,
+        columns: Columns {
+            release: none,
+            length: none,
+            due: none,
+        },
     }
 }

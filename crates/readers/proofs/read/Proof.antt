@@ -1,81 +1,24 @@
--- `read` meets its contract: opening minutes past the most are refused; else the table of tests 1 to 7, its rows in columns, the rule of
--- the profile over these, and the times that the rows take at the desk. Assumes nothing.
-use Prim.Native.Nat.{ℕ}
+-- `read` meets its contract: opening minutes past the most are refused, with nothing of the book.
+-- Assumes nothing.
 use native.Mathlib.Omega.{arith}
-use mathlib.Core.Path.{subst, sym}
+use mathlib.Core.Path.{refl}
 use borrow.Author.Needs.{needs}
 use denote.Ref.{now}
-use Rattle.schedule.specs.Limits.{latestMinute, longestLength, longestTime, latestDue}
 use Rattle.refusals.specs.Refusals.{byRange}
-use Rattle.book.specs.Tables.{tableRows}
-use Rattle.book.proofs.Readings.{Fits, read-fits}
-use Rattle.readers.specs.Times.{Timed}
 use Rattle.readers.proofs.Told.{untold-refused}
-use Rattle.readers.proofs.Readings.{gives, gives-refused}
-use Rattle.readers.proofs.Timing.{seen-in}
+use Rattle.readers.proofs.Readings.{gives-refused}
 use Rattle.readers.proofs.read.Statement.{statement}
 use Rattle.readers.proofs.read.Tie as tie
 
--- The table fits: so its rows can be taken apart, and they keep the limits.
-fits : (c : tie.After-read-words) → Fits (c .read-words .result .table)
-fits c = read-fits (now (c .before .before .before .args .book)) (c .read-words .result) (c .read-words .ensures)
-
-unread-requires : tie.Need-unread-requires
-unread-requires c κs = search needs
+read-told-requires : tie.Need-read-told-requires
+read-told-requires c κs = search needs
 
 returns : tie.Need-returns
-returns c =
-    let a = c .before .before .before .args in
-    gives-refused _ (c .unread .result) byRange 0 (untold-refused (a .terms) (now (a .book)) (omega arith))
-    (c .unread .ensures)
-
-read-words-requires : tie.Need-read-words-requires
-read-words-requires c κs = search needs
-
-columns-in-requires : tie.Need-columns-in-requires
-columns-in-requires c κs = fits c .few
-
-rule-tests-requires : tie.Need-rule-tests-requires
-rule-tests-requires c κs =
-    let f = fits (c .before .before .before .before .before) in
-    let k = c .before .before .before .before .columns-in .ensures in
-    let within = k .within latestMinute longestTime latestDue (λ i l m. let g = f .limited i l m in (g .0, omega (arith, g .1), g .2)) in
-    (f .few, k .releases, k .lengths, k .dues, within)
-
-then-requires : tie.Need-then-requires
-then-requires c κs = search needs
-
-add-opening-requires : tie.Need-add-opening-requires
-add-opening-requires c κs =
-    let f = fits (c .before .before .before .before .before .before .before .before) in
-    let k = c .before .before .before .before .before .before .before .columns-in .ensures in
-    (omega arith, f .few, k .lengths, λ i. k .within latestMinute longestLength latestDue (f .limited) i .1)
+returns c = search needs
 
 returns-2 : tie.Need-returns-2
 returns-2 c =
-    let w = c .before .before .before .before .before .before .before .before .before in
-    let a = w .before .before .before .args in
-    let r = w .read-words in
-    let rows = tableRows (r .result .table) in
-    let f = fits w in
-    let k = c .before .before .before .before .before .before .before .before .columns-in in
-    let o = c .before .before .before .rule-tests in
-    let then = c .before .before .then in
-    let times = c .add-opening .last .1 .0 in
-    let timed = subst (λ (n : ℕ). Timed (a .terms .opening) n (k .result .length) times) (sym (f .size)) (c .add-opening .ensures) in
-    let seen = seen-in (a .terms .opening) rows (k .result) (k .ensures) times timed in
-    let tested = o .ensures rows (f .size) (λ i l m. k .ensures .jobs i l (omega (arith, f .size))) in
-    gives (a .terms) (now (a .book)) (omega arith) (r .result) (r .ensures) _ seen (o .result) tested (then .result) (then .ensures)
+    let a = c .before .before .before .args in gives-refused _ _ byRange 0 (untold-refused (a .terms) (now (a .book)) (omega arith)) refl
 
 pub read-spec : {M : Type 1} → statement M
-read-spec =
-    tie.close
-    (tie.spec
-    unread-requires
-    returns
-    read-words-requires
-    columns-in-requires
-    rule-tests-requires
-    then-requires
-    add-opening-requires
-    returns-2)
+read-spec = tie.close (tie.spec read-told-requires returns returns-2)
