@@ -89,8 +89,8 @@ fn add_opening(opening: u32, minutes: &mut [u32; Desk::PLACES], n: usize)
     }
 }
 
-// What a book gives by terms whose opening is in its range: tests 1 to 7, then the rule of the profile, which counts no opening. (A book that
-// is refused before has no rows to test.)
+// What a book gives by terms whose opening is in its range: tests 1 to 7, then the rule of the profile, which counts no opening. (A book
+// that is refused before has no rows to test.)
 fn read_told(terms: Terms, book: &[u32]) -> Given
     requires { ⌜ terms .opening ≤ mostOpening ⌝ }
     ensures { λ r. ⌜ Gives (terms .opening) (readBy terms (now (book .entry))) r ⌝ }

@@ -1,5 +1,5 @@
--- `read_told` meets its contract: the table of tests 1 to 7, its rows in columns, the rule of the profile over these, and the times that the
--- rows take at the desk. Assumes nothing.
+-- `read_told` meets its contract: the table of tests 1 to 7, its rows in columns, the rule of the profile over these, and the times that
+-- the rows take at the desk. Assumes nothing.
 use Prim.Native.Nat.{ℕ}
 use native.Mathlib.Omega.{arith}
 use mathlib.Core.Path.{subst, sym}
