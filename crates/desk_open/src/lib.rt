@@ -17,7 +17,7 @@ use running::Layout;
 use schedule::Desk;
 use schedule::Profile;
 
-// The answer to an opening: the count of rows, and the desk's minute.
+// The answer where a desk is to be opened: the count of rows, and the desk's minute.
 pub enum OpenAnswer {
     Opened(usize, u32),
     Refused(u32, usize),

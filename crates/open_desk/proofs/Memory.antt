@@ -51,7 +51,7 @@ lent-yes said lent new e h = record {
   same-length = h;
 }
 
--- # Opening
+-- # Opening a desk
 -- A book that is refused by the ordering rule tells 1 to 8.
 not-first-come : Ordering ≡ FirstCome → ⊥
 not-first-come e = subst Is e tt
@@ -65,7 +65,7 @@ book-numbers (by-word n p f) = let h = wrong-numbered (f .wrong) in (h .0, omega
 book-numbers (disorder e day t k c) = (omega arith, omega arith)
 book-numbers (crossed e day t k c) = absurd (not-first-come e)
 
--- Before the words are looked at an opening is refused by its minutes, which tells 3, or by the book.
+-- Before the words are looked at the call is refused by the opening minutes, which tells 3, or by the book.
 read-numbers : (opening : ℕ) (book : List ℕ) (n p : ℕ) → readBy (orderingRule opening) book ≡ refused n p → (1 ≤ n) × (n ≤ 9)
 read-numbers opening book n p e = step (decLe opening mostOpening)
   where
@@ -79,7 +79,7 @@ module _ (opening : ℕ) (book ws : List ℕ) where
   abbrev Reads : Contents → Type 0
   Reads x = readBy (orderingRule opening) book ≡ x
 
-  -- A refused opening leaves the words; another writes those of a desk, and leaves the words after them.
+  -- A refused call leaves the words; another writes those of a desk, and leaves the words after them.
   abbrev OpenWrites : Outcome Said → Type 0
   OpenWrites o = Lent (λ n. (1 ≤ n) × (n ≤ 9)) ws o × (drop deskWords (o .buffer) ≡ drop deskWords ws)
 

@@ -38,7 +38,7 @@ use Rattle.open_desk.specs.Table.{OpenTurned, narrow, StartTurned, CanPl
 use Rattle.open_desk.proofs.Starts.{Found, refuses, passes, found}
 use Rattle.desk_start.proofs.StartLaws.{start-none, start-no, start-yes}
 
--- # Opening
+-- # Opening a desk
 module _ (opening : ℕ) (book ws : List ℕ) where
   module _ (day : Day) (e : readBy (orderingRule opening) book ≡ accepted day) where
     open-own : (n p : ℕ) → Refuses (deskOpen opening book ws .answer) n p ↔ OpenTurned ws n p

@@ -10,7 +10,7 @@ use Rattle.refusals.specs.Refusals.{byRange, byNarrow, byUnlisted, byDone, byEa
 use Rattle.running.specs.Running.{Running, jobIn}
 use Rattle.running.specs.Words.{deskWords, running, IsDesk}
 
--- An opening of an accepted book: the run is too short for a desk.
+-- A desk is opened with an accepted book: the run is too short for a desk.
 pub data OpenTurned (ws : List ℕ) : (n p : ℕ) → Type 0 where
   narrow : length ws < deskWords → OpenTurned ws byNarrow 0
 

@@ -25,7 +25,7 @@ use Rattle.desk_plans.specs.Plans.{openDeskPlans}
 use Rattle.open_desk.specs.History.{deskOpen, deskStart, deskList, deskPlan, Call, starts, lists, orders, afterCall, after}
 use Rattle.open_desk.specs.History.{openHistory}
 
--- A call of the table with its reply: what it says, and the buffer after it. (An opening and a start have none.)
+-- A call of the table with its reply: what it says, and the buffer after it. (The calls that open a desk and start a row have none.)
 pub record Asked : Type 0 where
   pub call : Call
   pub reply : Outcome Said
@@ -74,7 +74,7 @@ abbrev pub answered : List ℕ → List Asked → List Asked
 answered ws [] = []
 answered ws (a ∷ rest) = (a .call gets replyTo ws (a .call)) ∷ answered (afterCall ws (a .call)) rest
 
--- A morning as the definitions give it, on 1,288 words that are all 0 before the opening.
+-- A morning as the definitions give it, on 1,288 words that are all 0 before the desk is opened.
 abbrev pub workedOut : Morning → Morning
 workedOut m =
     let first = deskOpen (m .opening) (m .book) (replicate deskWords 0) in

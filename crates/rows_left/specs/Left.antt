@@ -1,4 +1,4 @@
--- The rows left on a running desk: whether they can be planned. On a desk that an opening and starts have left they always can; on other
+-- The rows left on a running desk: whether they can be planned. On a desk that was opened and started on they always can; on other
 -- words that look like a desk they may not.
 -- Rests on: the running desk and its words, the rule of rows (readers).
 use Prim.Native.Nat.{ℕ, _+_, _*_}

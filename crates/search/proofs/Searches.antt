@@ -1,4 +1,4 @@
--- The search from block to block: how it comes past the opening run and goes on with a block.
+-- The search from block to block: how it comes past the first run and goes on with a block.
 -- Assumes nothing.
 use Prim.Native.Nat.{ℕ, _+_, _≤_, _<_}
 use native.Mathlib.Omega.{arith}
@@ -38,14 +38,14 @@ stuck-torn n job by rest s g (inl e) z = absurd (z (omega (arith, g .count, ap l
 stuck-torn n job by rest s g (inr e) z = e
 
 module _ (n : ℕ) (job : ℕ → Job) (by : ℕ → ℕ) (limits : Limits job) (free : ℕ) where
-  -- The rows o are taken next, the opening run or a block: where the bound is kept with them, they are on the way; otherwise no order
+  -- The rows o are taken next, the first run or a block: where the bound is kept with them, they are on the way; otherwise no order
   -- keeps the bound.
   pub record Went (bound : ℕ) (done rest : List ℕ) (s : Standing) (order o : List ℕ) (r : Standing) (after : List ℕ) : Type 0 where
     pub kept : r .desk .worst ≤ bound → Way n job by free bound (done ++ o) (withoutAll o rest) r × After n job by rest s o r ×
         (take (r .count) after ≡ take (s .count) order ++ o)
     pub over : bound < r .desk .worst → orderAtRaised job n free bound ≡ none
 
-  -- The opening run, from a desk with nothing done yet.
+  -- The first run, from a desk with nothing done yet.
   module _ (bound : ℕ) (s : Standing) (starts : s .desk ≡ deskAt free) (none-done : s .count ≡ 0) (order : List ℕ) (r : Standing)
       (after : List ℕ)
       (q : Ran n job by bound (countFrom 1 n) s (run job (s .desk .minute) (countFrom 1 n)) order r after) where

@@ -1,4 +1,4 @@
--- The way to the order for a bound and for each smaller one: how it begins with the opening run, goes on with a block, and ends.
+-- The way to the order for a bound and for each smaller one: how it begins with the first run, goes on with a block, and ends.
 -- Assumes nothing.
 use Prim.Native.Nat.{ℕ, zero, suc, _+_, _≤_, _<_}
 use native.Mathlib.Omega.{arith}
@@ -61,7 +61,7 @@ module _ (job : ℕ → Job) (limits : Limits job) where
     abbrev opening : List ℕ
     opening = run job free all
 
-    -- The order for a bound, by the opening run.
+    -- The order for a bound, by the first run.
     order-opens : (y : ℤ) → keeps job y free opening ≡ true →
         orderFor job free all y ≡ joined opening (blocksFor job (length all) y (endOf job free opening) (withoutAll opening all))
     unfolding orderFor
@@ -71,11 +71,11 @@ module _ (job : ℕ → Job) (limits : Limits job) where
     unfolding orderFor
     order-shut y h = rw (h, orderFor)
 
-    -- The opening run is above the bound.
+    -- The first run is above the bound.
     pub opening-over : (b : ℕ) → b < deskThrough job (deskAt free) opening .worst → orderAtRaised job n free b ≡ none
     opening-over b h = order-shut (lowered b) (breaks-it b (deskAt free) opening (omega arith) h)
 
-    -- After the opening run.
+    -- After the first run.
     pub way-first : (bound : ℕ) (s r : Standing) → s .desk ≡ deskAt free → s .count ≡ 0 → After n job by all s opening r →
         Way n job by free bound opening (withoutAll opening all) r
     way-first bound s r e c m =

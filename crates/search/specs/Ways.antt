@@ -1,4 +1,4 @@
--- The way to the order for a bound, and for each smaller one: the blocks from the opening run on. Rows are numbered by rank.
+-- The way to the order for a bound, and for each smaller one: the blocks from the first run on. Rows are numbered by rank.
 -- Rests on: Taking, Searched.
 use Prim.Native.Nat.{ℕ, _≤_}
 use mathlib.Core.Path.{_≡_}

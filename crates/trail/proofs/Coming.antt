@@ -1,4 +1,4 @@
--- The search along the trail: how it comes past the opening run, goes on with a block that the trail then holds, and ends.
+-- The search along the trail: how it comes past the first run, goes on with a block that the trail then holds, and ends.
 -- Assumes nothing.
 use Prim.Native.Nat.{ℕ, suc, _+_, _≤_, _<_}
 use native.Mathlib.Omega.{arith}
@@ -24,7 +24,7 @@ use Rattle.search.proofs.Searches.{stuck-torn, Went, went-first, went-two, went
 use Rattle.trail.proofs.Trails.{held-set}
 
 module _ (n : ℕ) (job : ℕ → Job) (by : ℕ → ℕ) (limits : Limits job) (free : ℕ) where
-  -- The opening run, from a desk with nothing done yet.
+  -- The first run, from a desk with nothing done yet.
   module _ (bound : ℕ) (s : Standing) (starts : s .desk ≡ deskAt free) (none-done : s .count ≡ 0) (order : List ℕ) (r : Standing)
       (after : List ℕ)
       (q : Ran n job by bound (countFrom 1 n) s (run job (s .desk .minute) (countFrom 1 n)) order r after) where

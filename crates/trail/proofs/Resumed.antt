@@ -46,7 +46,7 @@ module _ (n : ℕ) (job : ℕ → Job) (by : ℕ → ℕ) (limits : Limits job) 
       all = λ h. let z : ⊥ = omega (arith, g .less) in absurd z;
     }
 
-    -- The opening run holds the worst lateness.
+    -- The first run holds the worst lateness.
     pub ended-opening : k ≡ 0 → Ended n job by free bound trail last
     ended-opening e =
         let x = back-held in

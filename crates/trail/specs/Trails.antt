@@ -1,4 +1,4 @@
--- The way to a plan: the blocks from the opening run on, as the trail holds them, so that a smaller bound goes on from one of them.
+-- The way to a plan: the blocks from the first run on, as the trail holds them, so that a smaller bound goes on from one of them.
 -- Rows are numbered by rank. Rests on: Taking, Searched.
 use Prim.Native.Nat.{ℕ, zero, suc, _≤_, _<_}
 use mathlib.Core.Bool.{Bool, true, false, cond}
@@ -57,7 +57,7 @@ module _ (n : ℕ) (job : ℕ → Job) (by : ℕ → ℕ) (free : ℕ) where
         (cond second (blockTwo job (from .desk .minute) rest) (blockOne job (from .desk .minute) rest)) .worst
     pub first-over : second ≡ true → bound < deskThrough job (from .desk) (blockOne job (from .desk .minute) rest) .worst
 
-  -- The trail holds as many blocks, `worst` being the worst lateness after them; of none it is that of the opening run.
+  -- The trail holds as many blocks, `worst` being the worst lateness after them; of none it is that of the first run.
   abbrev pub OnTrail : ℕ → List (List ℕ) → ℕ → ℕ → Type 0
   OnTrail bound trail zero worst = (b : ℕ) → b < worst → orderAtRaised job n free b ≡ none
   OnTrail bound trail (suc k) worst = Entry bound k (trailWords trail k) worst × OnTrail bound trail k (worstAt trail k)

@@ -96,7 +96,7 @@ fn onward(
     }
 }
 
-// The search set out with a bound: the opening run, then blocks.
+// The search set out with a bound: the first run, then blocks.
 pub fn set_out(
     release: &[u32; Desk::PLACES],
     minutes: &[u32; Desk::PLACES],
@@ -136,7 +136,7 @@ fn back_to(trail: &[[u64; 10]], depth: usize, bound: u32) -> usize
 }
 
 // The search taken up again with a smaller bound: at the first block that holds the worst lateness, with block two in its place.
-// Where that was block two already, or the opening run, no order keeps the bound: the search stays where it came to, above the bound.
+// Where that was block two already, or the first run, no order keeps the bound: the search stays where it came to, above the bound.
 pub fn resume(
     release: &[u32; Desk::PLACES],
     minutes: &[u32; Desk::PLACES],

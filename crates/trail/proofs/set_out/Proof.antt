@@ -1,4 +1,4 @@
--- `set_out` meets its contract: past the opening run the search goes on with blocks.
+-- `set_out` meets its contract: past the first run the search goes on with blocks.
 -- Assumes nothing.
 use borrow.Author.Needs.{needs}
 use Rattle.trail.proofs.set_out.Statement.{statement}
