@@ -1,6 +1,6 @@
 -- The open desk: what is promised of it. A desk is a lent run of words that is filled from a book when it is opened; a history is a list of
--- calls on it. The proofs are `desk-memory`, `desk-definitions` and `open-desk`, in proofs/Promise.antt. That each function does what is said here
--- of its call is its contract (src/lib.rt). Rests on: History, Table, the promises of a book's calls.
+-- calls on it. The proofs are `desk-memory`, `desk-definitions` and `open-desk`, in proofs/Promise.antt. That each function does what is said
+-- here of its call is its contract (src/lib.rt). Rests on: History, Table, the promises of a book's calls.
 use Prim.Native.Nat.{ℕ, _+_, _*_, _≤_, _<_}
 use mathlib.Core.Path.{_≡_}
 use mathlib.Core.List.{List, [], _∷_, _++_, map}
@@ -33,7 +33,8 @@ pub record DeskProperty1 : Type 0 where
   pub of-start : (ws : List ℕ) (i m : ℕ) → Lent (λ n. (n ≡ 3) ⊎ (n ≡ 11) ⊎ (n ≡ 14) ⊎ (n ≡ 15)) ws (deskStart ws i m)
   pub of-list : (ws b : List ℕ) → Lent (λ n. (n ≡ 3) ⊎ (n ≡ 9)) b (deskList ws b)
   pub of-plan : (ws : List ℕ) (k : ℕ) (b : List ℕ) → Lent (λ n. (n ≡ 3) ⊎ (n ≡ 9) ⊎ (n ≡ 11)) b (deskPlan ws k b)
-  -- A desk that is opened has its 1,288 words written, and a start writes three of them: the minute, the worst lateness so far, and the mark of its row.
+  -- A desk that is opened has its 1,288 words written, and a start writes three of them: the minute, the worst lateness so far, and the
+  -- mark of its row.
   pub open-writes : (opening : ℕ) (book ws : List ℕ) → drop deskWords (deskOpen opening book ws .buffer) ≡ drop deskWords ws
   pub start-writes : (ws : List ℕ) (i m place : ℕ) → ¬ (place ≡ 1) → ¬ (place ≡ 2) → ¬ (place ≡ marks + i) →
       getD (deskStart ws i m .buffer) place 0 ≡ getD ws place 0
