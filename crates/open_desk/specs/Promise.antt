@@ -1,6 +1,6 @@
 -- The open desk: what is promised of it. A desk is a lent run of words that is filled from a book when it is opened; a history is a list of
--- calls on it. The proofs are `desk-memory`, `desk-definitions` and `open-desk`, in proofs/Promise.antt. That each function does what is said
--- here of its call is its contract (src/lib.rt). Rests on: History, Table, the promises of a book's calls.
+-- calls on it. The proofs are `desk-memory`, `desk-definitions` and `open-desk`, in proofs/Promise.antt. That each function does what is
+-- said here of its call is its contract (src/lib.rt). Rests on: History, Table, the promises of a book's calls.
 use Prim.Native.Nat.{ℕ, _+_, _*_, _≤_, _<_}
 use mathlib.Core.Path.{_≡_}
 use mathlib.Core.List.{List, [], _∷_, _++_, map}
