@@ -1,4 +1,5 @@
-//! What docs/AUDIT.md says of files: those that must be believed are there and have as many lines as it counts, and those it names are there.
+//! What docs/AUDIT.md says of files: those that must be believed are there and have as many lines as it
+//! counts, and those it names are there.
 
 use std::fs::read_to_string;
 

@@ -13,7 +13,7 @@ use lib.Signed.{leZ}
 use borrow.Author.Tests.{eqb-true, eqb-false, eq-eqb, ne-eqb}
 use Rattle.schedule.specs.Rows.{Day, jobs, countFrom, rowNumbers, stands, without}
 use Rattle.schedule.specs.Desk.{maxZ, worstOf}
-use Rattle.schedule.proofs.Tests.{false-is-true, true-is, is-true, true-is, is-false}
+use Rattle.schedule.proofs.Tests.{false-is-true, true-is, is-true, is-false}
 use Rattle.schedule.proofs.Signed.{leZ-trans, leZ-total}
 use Rattle.schedule.proofs.Stands.{stands-behind}
 use Rattle.running.specs.Running.{rowsSeen, opened, noJob, jobIn, worse, endAt, worstAt, moved}
