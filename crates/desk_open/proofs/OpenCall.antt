@@ -9,8 +9,9 @@ use lib.Seq.{ext-getD, length-take-le, getD-take, getD-drop}
 use borrow.Author.Tests.{lt-ltb, le-ltb}
 use Rattle.schedule.specs.Limits.{mostRows, rowPlaces}
 use Rattle.schedule.specs.declared.Row.{Row}
-use Rattle.schedule.specs.Rows.{row, job, Day, withOpening, jobs}
+use Rattle.schedule.specs.Rows.{noRow, row, job, Day, withOpening, jobs}
 use Rattle.schedule.specs.Columns.{at, columns}
+use Rattle.schedule.proofs.Filling.{mapped-at}
 use Rattle.refusals.specs.declared.Tested.the-variants.{Passed}
 use Rattle.refusals.specs.Refusals.{byNarrow}
 use Rattle.book.specs.Rows.{refused, accepted}
@@ -26,7 +27,7 @@ use Rattle.running.specs.Words.{deskWords, releases, times, dues}
 use Rattle.desk_open.specs.declared.OpenAnswer.the-variants as open-answer
 use Rattle.desk_open.specs.Opens.{put, openedWords, openCall}
 use Rattle.desk_open.proofs.Puts.{put-written}
-use Rattle.desk_open.proofs.Opened.{mapped-at, timeOf, withHead, withDues, withTimes, dues-room, times-room, releases-room}
+use Rattle.desk_open.proofs.Opened.{timeOf, withHead, withDues, withTimes, dues-room, times-room, releases-room}
 
 -- By what the reader gives: a refused book; a run that is too short; a desk.
 module _ (opening : ℕ) (book ws : List ℕ) where
@@ -55,7 +56,7 @@ column-rows f column rows h same =
     let inside : i < n = omega arith in
     let e : 1 + i ≡ suc i = omega arith in
     getD-take n (drop 1 column) i 0 inside ∙ getD-drop 1 column i 0 ∙ ap (at column) e ∙ same (suc i) (omega arith) (omega arith) ∙
-    sym (mapped-at f rows i 0 inside))
+    sym (mapped-at f rows i noRow 0 inside))
 
 -- The head and the columns of a day's rows, put into a run one after another.
 module _ (opening : ℕ) (day : Day) (few : length (day .rows) ≤ mostRows) (ws : List ℕ) (n : ℕ) (count : length (day .rows) ≡ n) where

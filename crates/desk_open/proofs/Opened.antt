@@ -2,13 +2,12 @@
 -- Assumes nothing.
 use Prim.Native.Nat.{ℕ, zero, suc, _+_, _≤_, _<_}
 use native.Mathlib.Omega.{arith}
-use native.Mathlib.Nat.{not-suc-le-zero, le-of-suc-le-suc}
 use mathlib.Core.Bool.{cond}
 use mathlib.Core.Path.{_≡_, refl, sym, ap, _∙_}
 use mathlib.Core.List.{List, [], _∷_, _++_, map}
 use mathlib.Core.Logic.{inl}
 use lib.Dec.{eqb}
-use lib.ListN.{length, drop, getD, replicate, length-append, length-drop, length-map, length-replicate, getD-replicate}
+use lib.ListN.{length, drop, replicate, length-append, length-drop, length-map, length-replicate, getD-replicate}
 use lib.ListN.{List·getD-append}
 use lib.Seq.{ext-getD}
 use Rattle.schedule.specs.Limits.{mostRows}
@@ -16,6 +15,7 @@ use Rattle.schedule.specs.declared.Row.{Row}
 use Rattle.schedule.specs.Rows.{noRow, row, Day, jobs, countFrom}
 use Rattle.schedule.specs.Columns.{at}
 use Rattle.schedule.proofs.Numbers.{from-mem}
+use Rattle.schedule.proofs.Filling.{mapped-at}
 use Rattle.rows.proofs.Laid.{releaseOf, dueOf}
 use Rattle.readers.specs.Reads.{orderingRule}
 use Rattle.readers.specs.Accepted.{AcceptedDay}
@@ -27,13 +27,6 @@ use Rattle.running.proofs.Fits.{counted-at, rows-length}
 use Rattle.desk_open.specs.Opens.{put, openedWords}
 use Rattle.desk_open.proofs.Puts.{put-length, put-inside, put-before, put-after}
 
--- Something of each row, in a list: at each place that of its row, whatever is read past the last.
-pub mapped-at : {A : Type 0} (f : Row → A) (rows : List Row) (k : ℕ) (none : A) → k < length rows →
-    getD (map f rows) k none ≡ f (getD rows k noRow)
-mapped-at f [] k none h = absurd (not-suc-le-zero h)
-mapped-at f (r ∷ rows) zero none h = refl
-mapped-at f (r ∷ rows) (suc k) none h = mapped-at f rows k none (le-of-suc-le-suc h)
-
 -- A number of each row, put after a place: that of row i stands i places on.
 column-at : (f : Row → ℕ) (before : ℕ) (rows : List Row) (ws : List ℕ) →
     before + 1 + length (map f rows) ≤ length ws → (i : ℕ) → 1 ≤ i → i ≤ length rows →
@@ -42,7 +35,7 @@ column-at f before rows ws room zero h g = let z : ⊥ = omega arith in absurd z
 column-at f before rows ws room (suc k) h g =
     let place : before + suc k ≡ before + 1 + k = omega arith in
     ap (at (put (before + 1) (map f rows) ws)) place ∙
-    put-inside (before + 1) (map f rows) ws room k (omega (arith, length-map rows f)) ∙ mapped-at f rows k 0 (omega arith)
+    put-inside (before + 1) (map f rows) ws room k (omega (arith, length-map rows f)) ∙ mapped-at f rows k noRow 0 (omega arith)
 
 -- The time of a row at the desk.
 abbrev pub timeOf : (opening : ℕ) → Row → ℕ
@@ -168,7 +161,7 @@ rows-are opening day ws count same =
     let l : i < countIn ws = omega (arith, rows-length ws) in
     let e : 1 + i ≡ suc i = omega arith in
     counted-at (jobAt ws) noJob 1 (countIn ws) i l ∙ ap (jobAt ws) e ∙ same (suc i) (omega arith) (omega arith) ∙
-    sym (mapped-at _ (day .rows) i noJob (omega arith)))
+    sym (mapped-at _ (day .rows) i noRow noJob (omega arith)))
 
 -- The same in a run that holds them at its start.
 module _ (opening : ℕ) (day : Day) (b : List ℕ) (a : AcceptedDay (orderingRule opening) day) (wide : deskWords ≤ length b) where

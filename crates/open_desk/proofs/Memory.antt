@@ -9,7 +9,6 @@ use mathlib.Core.List.{List, _++_}
 use mathlib.Core.Logic.{_⊎_, inl, inr}
 use lib.ListN.{length, drop, getD}
 use lib.Seq.{drop-append-seam}
-use Rattle.schedule.specs.Limits.{mostOpening}
 use Rattle.schedule.specs.declared.Profile.{Profile}
 use Rattle.schedule.specs.declared.Profile.the-variants.{Ordering, FirstCome}
 use Rattle.schedule.specs.Offset.{raised}
@@ -18,15 +17,14 @@ use Rattle.refusals.specs.Refusals.{byNarrow, byRange}
 use Rattle.book.specs.Rows.{Contents, refused, accepted}
 use Rattle.readers.specs.Reads.{orderingRule, readBy}
 use Rattle.readers.proofs.Accepted.{accepted-day}
-use Rattle.readers.proofs.Told.{told-reads, untold-refused}
 use Rattle.results.specs.Results.{written}
 use Rattle.outcomes.specs.Planning.{Outcome, gives}
 use Rattle.calls.specs.Answers.{Said, saidNo}
 use Rattle.promises.specs.Vocabulary.{told}
 use Rattle.promises.specs.Promise.{Lent}
-use Rattle.promises.specs.Table.{BookRefused, by-word, disorder, crossed}
-use Rattle.promises.proofs.Accepted.{refusal-is, book-refused}
+use Rattle.promises.specs.Table.{BookRefused, by-word, disorder, crossed, Turned, by-opening, by-book, by-call}
 use Rattle.promises.proofs.Numbers.{wrong-numbered}
+use Rattle.promises.proofs.Refused.{contents-turned}
 use Rattle.running.specs.Running.{Running, endAt, worstAt}
 use Rattle.running.specs.Words.{deskWords, running, marks, isDesk, movedWords}
 use Rattle.running.proofs.Moves.{moved-length, moved-other}
@@ -67,13 +65,12 @@ book-numbers (crossed e day t k c) = absurd (not-first-come e)
 
 -- Before the words are looked at the call is refused by the opening minutes, which tells 3, or by the book.
 read-numbers : (opening : ℕ) (book : List ℕ) (n p : ℕ) → readBy (orderingRule opening) book ≡ refused n p → (1 ≤ n) × (n ≤ 9)
-read-numbers opening book n p e = step (decLe opening mostOpening)
+read-numbers opening book n p e = step n p (contents-turned (orderingRule opening) book (λ day n p. ⊥) n p e)
   where
-    step : Dec (opening ≤ mostOpening) → (1 ≤ n) × (n ≤ 9)
-    step (yes h) = book-numbers (book-refused Ordering book n p .0 (sym (told-reads (orderingRule opening) book h) ∙ e))
-    step (no h) =
-        let three = refusal-is (sym (untold-refused (orderingRule opening) book (omega arith)) ∙ e) .0 in
-        (omega (arith, three), omega (arith, three))
+    step : (n p : ℕ) → Turned (orderingRule opening) book (λ day n p. ⊥) n p → (1 ≤ n) × (n ≤ 9)
+    step _ _ (by-opening h) = (omega arith, omega arith)
+    step _ _ (by-book n p h r) = book-numbers r
+    step _ _ (by-call n p day t o) = absurd o
 
 module _ (opening : ℕ) (book ws : List ℕ) where
   abbrev Reads : Contents → Type 0

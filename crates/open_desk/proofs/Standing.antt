@@ -11,13 +11,13 @@ use lib.ListN.{length, length-map}
 use lib.IntN.{ℤ}
 use lib.Signed.{leZ}
 use borrow.Author.Tests.{eqb-true, eqb-false, eq-eqb, ne-eqb}
-use Rattle.schedule.specs.Rows.{Day, jobs, countFrom, rowNumbers, stands, without}
+use Rattle.schedule.specs.Rows.{noRow, Day, jobs, countFrom, rowNumbers, stands, without}
 use Rattle.schedule.specs.Desk.{maxZ, worstOf}
 use Rattle.schedule.proofs.Tests.{false-is-true, true-is, is-true, is-false}
 use Rattle.schedule.proofs.Signed.{leZ-trans, leZ-total}
 use Rattle.schedule.proofs.Stands.{stands-behind}
+use Rattle.schedule.proofs.Filling.{mapped-at}
 use Rattle.running.specs.Running.{rowsSeen, opened, noJob, jobIn, worse, endAt, worstAt, moved}
-use Rattle.desk_open.proofs.Opened.{mapped-at}
 use Rattle.open_desk.specs.History.{Start, endOfStart, latenessOfStart, minuteAfter, notTaken, worstSoFar, standing}
 
 -- Row i is one of the day's. What planning sees of it is the same on the desk as of the day.
@@ -26,7 +26,7 @@ OfDay day i = (1 ≤ i) × (i ≤ length (day .rows))
 
 pub job-held : (opening : ℕ) (day : Day) (i : ℕ) → OfDay day i → jobIn (rowsSeen opening day) i ≡ jobs opening day i
 job-held opening day zero h = let z : ⊥ = omega arith in absurd z
-job-held opening day (suc i) h = mapped-at _ (day .rows) i noJob (omega arith)
+job-held opening day (suc i) h = mapped-at _ (day .rows) i noRow noJob (omega arith)
 
 pub seen-length : (opening : ℕ) (day : Day) → length (rowsSeen opening day) ≡ length (day .rows)
 seen-length opening day = length-map (day .rows) _

@@ -59,6 +59,18 @@ module _ (said : Said) (Turns : (n p : ℕ) → Type 0) where
   pub says-yes : said .number ≡ 0 → ((n p : ℕ) → ¬ Turns n p) → (n p : ℕ) → Refuses said n p ↔ Turns n p
   says-yes e f n p = (λ h. let z : ⊥ = omega (arith, h .0, h .1) in absurd z, λ t. absurd (f n p t))
 
+-- A refusal of the opening or the book, by its number and place, whatever a call's own conditions are.
+pub contents-turned : (terms : Terms) (book : List ℕ) (Own : Day → (n p : ℕ) → Type 0) (n p : ℕ) → readBy terms book ≡ refused n p →
+    Turned terms book Own n p
+contents-turned terms book Own n p e = step (decLe (terms .opening) mostOpening)
+  where
+    step : Dec (terms .opening ≤ mostOpening) → Turned terms book Own n p
+    step (yes h) = by-book n p h (book-refused (terms .profile) book n p .0 (sym (told-reads terms book h) ∙ e))
+    step (no h) =
+        let s = refusal-is (sym (untold-refused terms book (omega arith)) ∙ e) in
+        subst (λ (m : ℕ). Turned terms book Own m p) (s .0)
+        (subst (Turned terms book Own byRange) (s .1) (by-opening (omega arith)))
+
 -- By the opening minutes, by the book, and by a condition of the call's own.
 module _ (terms : Terms) (book : List ℕ) (Own : Day → (n p : ℕ) → Type 0) (said : Said) where
   pub turned : ((n p : ℕ) → readBy terms book ≡ refused n p → said ≡ saidNo n p) →
@@ -66,20 +78,12 @@ module _ (terms : Terms) (book : List ℕ) (Own : Day → (n p : ℕ) → Type 0
       (n p : ℕ) → Refuses said n p ↔ Turned terms book Own n p
   turned book-no own n p = (λ h. there h (readBy terms book) refl, back n p)
     where
-      -- A refusal of the opening or the book, by its number and place.
-      by-contents : (m q : ℕ) → readBy terms book ≡ refused m q → Dec (terms .opening ≤ mostOpening) → Turned terms book Own m q
-      by-contents m q e (yes h) = by-book m q h (book-refused (terms .profile) book m q .0 (sym (told-reads terms book h) ∙ e))
-      by-contents m q e (no h) =
-          let s = refusal-is (sym (untold-refused terms book (omega arith)) ∙ e) in
-          subst (λ (x : ℕ). Turned terms book Own x q) (s .0)
-          (subst (Turned terms book Own byRange) (s .1) (by-opening (omega arith)))
-
       there : Refuses said n p → (x : Contents) → readBy terms book ≡ x → Turned terms book Own n p
       there h (refused m q) e =
           let s = book-no m q e in
           let f : m ≡ n = sym (ap (λ (s : Said). s .number) s) ∙ h .1 in
           let g : q ≡ p = sym (ap (λ (s : Said). s .place) s) ∙ h .2 in
-          by-contents n p (e ∙ (λ i. refused (f i) (g i))) (decLe (terms .opening) mostOpening)
+          contents-turned terms book Own n p (e ∙ (λ i. refused (f i) (g i)))
       there h (accepted day) e = by-call n p day (takes terms book day .0 e) (own day e n p .0 h)
 
       refuses : (m q : ℕ) → 1 ≤ m → readBy terms book ≡ refused m q → Refuses said m q

@@ -1,8 +1,8 @@
 -- Laws of order numbers: those of a table's rows, taken apart row by row, and those of an order, put in the place of its rows.
 -- Assumes nothing.
-use Prim.Native.Nat.{ℕ, zero, suc, _+_, _≤_, _<_}
+use Prim.Native.Nat.{ℕ, _+_, _≤_, _<_}
 use mathlib.Core.Path.{_≡_, refl, ap, sym, subst, _∙_}
-use mathlib.Core.List.{List, [], _∷_, map}
+use mathlib.Core.List.{List, [], map}
 use native.Mathlib.Omega.{arith}
 use native.Mathlib.Decide.{ℕ-discrete}
 use lib.ListN.{length, take, getD, set, replicate, length-set, length-map}
@@ -10,6 +10,7 @@ use lib.Seq.{getD-set-same, getD-set-other, ext-getD}
 use Rattle.schedule.specs.Limits.{mostRows, rowPlaces}
 use Rattle.schedule.specs.declared.Row.{Row}
 use Rattle.schedule.specs.Rows.{noRow}
+use Rattle.schedule.proofs.Filling.{mapped-at}
 use Rattle.rows.proofs.Column.{Column, column-none, column-more}
 
 -- The numbers of the first n rows, at their places.
@@ -31,11 +32,6 @@ pub record Named (f : ℕ → ℕ) (k : ℕ) (order before : List ℕ) : Type 0 
   pub size : length order ≡ length before
   pub done : (j : ℕ) → j < k → getD order j 0 ≡ f (getD before j 0)
   pub left : (j : ℕ) → k ≤ j → getD order j 0 ≡ getD before j 0
-
-getD-map : (f : ℕ → ℕ) (l : List ℕ) (i : ℕ) → i < length l → getD (map f l) i 0 ≡ f (getD l i 0)
-getD-map f [] i h = let z : ⊥ = omega arith in absurd z
-getD-map f (x ∷ xs) zero h = refl
-getD-map f (x ∷ xs) (suc i) h = getD-map f xs i (omega arith)
 
 module _ (f : ℕ → ℕ) (order before : List ℕ) where
   pub none-named : order ≡ before → Named f 0 order before
@@ -61,4 +57,4 @@ module _ (f : ℕ → ℕ) (order before : List ℕ) where
   pub all-named : (k : ℕ) → length order ≤ k → Named f k order before → order ≡ map f before
   all-named k h a =
       ext-getD 0 order (map f before) (a .size ∙ sym (length-map before f))
-      (λ i l. a .done i (omega arith) ∙ sym (getD-map f before i (omega (arith, a .size))))
+      (λ i l. a .done i (omega arith) ∙ sym (mapped-at f before i 0 0 (omega (arith, a .size))))
