@@ -1,5 +1,6 @@
 -- `head_fits` meets its contract.
 -- Assumes nothing.
+use mathlib.Core.Path.{refl}
 use borrow.Author.Needs.{needs}
 use Rattle.running.specs.Words.{headFits}
 use Rattle.running.proofs.head_fits.Statement.{statement}
@@ -25,7 +26,7 @@ is-between-requires-2 c κs = search needs
 
 returns : tie.Need-returns
 unfolding headFits
-returns c = cc
+returns c = rw (c .is-between2 .ensures, c .before .before .before .is-between .ensures) refl
 
 pub head-fits-spec : {M : Type 1} → statement M
 head-fits-spec =

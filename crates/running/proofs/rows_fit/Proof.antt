@@ -1,5 +1,6 @@
 -- `rows_fit` meets its contract.
 -- Assumes nothing.
+use mathlib.Core.Path.{refl}
 use borrow.Author.Needs.{needs}
 use Rattle.running.specs.Words.{rowsFit}
 use Rattle.running.proofs.rows_fit.Statement.{statement}
@@ -28,7 +29,13 @@ column-fits-requires-4 c κs = search needs
 
 returns : tie.Need-returns
 unfolding rowsFit
-returns c = cc
+returns c =
+    rw (
+      c .before .before .before .before .column-fits .ensures,
+      c .before .before .column-fits2 .ensures,
+      c .before .column-fits3 .ensures,
+      c .column-fits4 .ensures,
+    ) refl
 
 pub rows-fit-spec : {M : Type 1} → statement M
 rows-fit-spec =
