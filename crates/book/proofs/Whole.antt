@@ -9,7 +9,7 @@ use lib.Dec.{ltb, eqb}
 use lib.ListN.{length, drop, getD, length-drop, length-append, List·getD-append}
 use lib.Seq.{getD-at}
 use borrow.Author.Tests.{ltb-true, ltb-false}
-use Rattle.schedule.specs.Limits.{latestDue, latestMinute, longestLength, mostRows}
+use Rattle.schedule.specs.Limits.{latestDue, latestMinute, longestLength, mostRows, leastPace, mostPace, mostPages}
 use Rattle.schedule.specs.declared.Row.{Row}
 use Rattle.schedule.specs.declared.Class.{Class}
 use Rattle.schedule.specs.declared.Class.the-variants.{None, Of}
@@ -51,6 +51,7 @@ pub record RowRanged (r : Row) : Type 0 where
   pub most : r .length ≤ longestLength
   pub class : ClassDue r
   pub due : r .due ≤ latestDue
+  pub pages : (1 ≤ r .pages) × (r .pages ≤ mostPages)
 
 abbrev pub AllRanged : List Row → Type 0
 AllRanged rs = (i : ℕ) → i < length rs → RowRanged (getD rs i noRow)
@@ -68,7 +69,7 @@ class-due (Of d) release minutes told c m e = let s : d ≡ c = cc in rw (← s)
 
 -- A pace that a book may tell.
 abbrev pub Paced : ℕ → Type 0
-Paced pace = (4 ≤ pace) × (pace ≤ 120)
+Paced pace = (leastPace ≤ pace) × (pace ≤ mostPace)
 
 row-ranged : (numbers : List ℕ) (pace : ℕ) (ws : List ℕ) → Paced pace → Fit numbers ws → RowRanged (rowOf pace ws)
 row-ranged numbers pace ws h f =
@@ -79,6 +80,7 @@ row-ranged numbers pace ws h f =
       most = m;
       class = λ c. class-due (classOf ws) (value (word ws 1)) (lengthOf (value (word ws 2)) pace) (value (word ws 3)) c (f .due .class);
       due = f .due .most (value (word ws 1)) (lengthOf (value (word ws 2)) pace) (f .release .most) m;
+      pages = (f .pages .least, f .pages .most);
     }
 
 ranged-on : (rows : List Row) (r : Row) → AllRanged rows → RowRanged r → AllRanged (rows ++ (r ∷ []))

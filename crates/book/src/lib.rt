@@ -3,7 +3,7 @@ ghost use mathlib.Core.Path.{_≡_};
 ghost use Prim.Native.Nat.{_≤_, _<_};
 ghost use mathlib.Core.List.{[]};
 ghost use lib.ListN.{length, drop};
-ghost use Rattle.schedule.specs.Limits.{mostRows};
+ghost use Rattle.schedule.specs.Limits.{mostRows, leastPace, mostPace};
 ghost use Rattle.schedule.specs.Rows.{noRow};
 ghost use Rattle.words.specs.WordTests.{lastStart};
 ghost use Rattle.book.specs.Rows.{endStands, endTests, triedRows, readRows};
@@ -29,11 +29,6 @@ pub struct Reading {
 }
 
 impl Table {
-    // The least and the most pace, in pages an hour.
-    pub const LEAST_PACE: u32 = 4;
-
-    pub const MOST_PACE: u32 = 120;
-
     // No row in any place.
     fn empty() -> Table
         ensures { λ r. ⌜ r ≡ tableOf noDay ⌝ }
@@ -57,6 +52,7 @@ fn no_row() -> Row
         length: 0,
         due: 0,
         class: Class::None,
+        pages: 0,
     }
 }
 
@@ -112,7 +108,7 @@ fn unless_refused(outcome: Tested, table: Table) -> Reading
 // The order numbers stand in a column beside the rows, which the row reader is lent instead of the rows. The table is made at the end: a
 // copy less.
 fn read_rows(free: u32, pace: u32, book: &[u32]) -> Reading
-    requires { ⌜ (2 ≤ length (now book)) × (4 ≤ pace) × (pace ≤ 120) ⌝ }
+    requires { ⌜ (2 ≤ length (now book)) × (leastPace ≤ pace) × (pace ≤ mostPace) ⌝ }
     ensures { λ r. ⌜ r ≡ readingOf (readRows triedRows free pace [] 2 (drop 2 (now (book .entry)))) ⌝ }
 {
     let none = no_row();
@@ -149,7 +145,7 @@ fn head_tests(book: &[u32]) -> Tested
     ensures { λ r. ⌜ r ≡ headTests (now (book .entry)) ⌝ }
 {
     let free = words::word_tests(1, 0, Desk::MINUTES, 0, book, 0);
-    let pace = words::word_tests(2, Table::LEAST_PACE, Table::MOST_PACE, 0, book, 1);
+    let pace = words::word_tests(2, Desk::LEAST_PACE, Desk::MOST_PACE, 0, book, 1);
     refusals::then(free, pace)
 }
 

@@ -78,13 +78,17 @@ infix 10 _gets_
 abbrev pub withMinutes : (opening : ℕ) → Worked → Worked
 withMinutes opening d = record { opening = opening; asked = d .asked; told = d .told }
 
--- How answers are written in the table: a book of one row with its length, due and class, or of length 5; plans with the buffer; an
--- order's end and lateness with the buffer; a refusal with the buffer; a line.
-abbrev pub lasts : (minutes due class : ℕ) → Reply
-lasts n d c = reads (accepted (record { free = 0; rows = record { number = 901; release = 10; length = n; due = d; class = Of c } ∷ [] }))
+-- How answers are written in the table: a book of one row with its length, due, class and pages, or of length and pages 5; plans with
+-- the buffer; an order's end and lateness with the buffer; a refusal with the buffer; a line.
+abbrev pub lasts : (minutes due class pages : ℕ) → Reply
+lasts n d c p =
+    reads (accepted (record {
+      free = 0;
+      rows = record { number = 901; release = 10; length = n; due = d; class = Of c; pages = p } ∷ [];
+    }))
 
 abbrev pub due : ℕ → ℕ → Reply
-due d c = lasts 5 d c
+due d c = lasts 5 d c 5
 
 abbrev pub plans : ℕ → List ℕ → Reply
 plans k b = lists (gives (list-answer.Plans k) b)

@@ -5,7 +5,7 @@ use Prim.Native.Nat.{ℕ, _+_, _*_, _≤_, _<_}
 use mathlib.Core.Path.{_≡_}
 use mathlib.Core.List.{List, [], _∷_, _++_, map, List·Memᴰ}
 use lib.ListN.{length}
-use Rattle.schedule.specs.Limits.{mostRows, latestMinute, latestDue}
+use Rattle.schedule.specs.Limits.{mostRows, latestMinute, latestDue, mostPages, leastPace, mostPace}
 use Rattle.schedule.specs.declared.Row.{Row}
 use Rattle.schedule.specs.declared.Class.{Class}
 use Rattle.schedule.specs.declared.Class.the-variants.{None, Of}
@@ -61,6 +61,7 @@ rowBy pace e =
       length = minutes;
       due = dueBySold (e .release) minutes (e .sold);
       class = classBySold (e .sold);
+      pages = e .pages;
     }
 
 abbrev pub dayBy : (free pace : ℕ) → List Entry → Day
@@ -74,7 +75,7 @@ SoldInRange (class c) = c ≤ 7
 pub record EntryInRange (e : Entry) : Type 0 where
   pub number : e .number < 536870912
   pub release : e .release ≤ latestMinute
-  pub pages : (1 ≤ e .pages) × (e .pages ≤ 2000)
+  pub pages : (1 ≤ e .pages) × (e .pages ≤ mostPages)
   pub sold : SoldInRange (e .sold)
 
 -- The numbers differ from row to row.
@@ -85,7 +86,7 @@ NumbersDiffer (e ∷ es) = ((f : Entry) → List·Memᴰ f es → ¬ (e .number 
 -- What a bureau may write: 1 to 256 rows in range with different numbers, at a free minute and a pace in range.
 pub record MayBeWritten (free pace : ℕ) (es : List Entry) : Type 0 where
   pub free-range : free ≤ latestMinute
-  pub pace-range : (4 ≤ pace) × (pace ≤ 120)
+  pub pace-range : (leastPace ≤ pace) × (pace ≤ mostPace)
   pub some-row : 1 ≤ length es
   pub few-rows : length es ≤ mostRows
   pub ranged : (e : Entry) → List·Memᴰ e es → EntryInRange e

@@ -6,7 +6,7 @@ use mathlib.Core.Path.{_≡_}
 use mathlib.Core.List.{List, [], _∷_}
 use mathlib.Core.Logic.{_⊎_, _↔_}
 use lib.ListN.{length, getD}
-use Rattle.schedule.specs.Limits.{mostRows, latestMinute, latestDue}
+use Rattle.schedule.specs.Limits.{mostRows, latestMinute, latestDue, mostPages, leastPace, mostPace}
 use Rattle.schedule.specs.Rows.{Day}
 use Rattle.refusals.specs.Refusals.{byCut, byKind, byRange, byTwice, byFull, byCount, byTail}
 use Rattle.words.specs.Words.{word}
@@ -28,10 +28,10 @@ pub data Wants (place k : ℕ) : Type 0 where
 -- The range of each kind. Kinds 3 and 7 have no range test.
 pub data Ranged (k v : ℕ) : Type 0 where
   free : k ≡ 1 → v ≤ latestMinute → Ranged k v
-  pace : k ≡ 2 → 4 ≤ v → v ≤ 120 → Ranged k v
+  pace : k ≡ 2 → leastPace ≤ v → v ≤ mostPace → Ranged k v
   number : k ≡ 3 → Ranged k v
   release : k ≡ 4 → v ≤ latestMinute → Ranged k v
-  pages : k ≡ 5 → 1 ≤ v → v ≤ 2000 → Ranged k v
+  pages : k ≡ 5 → 1 ≤ v → v ≤ mostPages → Ranged k v
   due : k ≡ 6 → v ≤ latestDue → Ranged k v
   class : k ≡ 0 → v ≤ 7 → Ranged k v
   end : k ≡ 7 → Ranged k v

@@ -99,8 +99,8 @@ days =
     (reading (twoRows 13) gets reads (accepted (record {
       free = 0;
       rows =
-          record { number = 901; release = 1; length = 1; due = 5; class = None } ∷
-          record { number = 902; release = 0; length = 10; due = 13; class = None } ∷ [];
+          record { number = 901; release = 1; length = 1; due = 5; class = None; pages = 1 } ∷
+          record { number = 902; release = 0; length = 10; due = 13; class = None; pages = 10 } ∷ [];
     }))) ∷
     (reading (twoRows 14) gets reads (refused 8 6)) ∷
     -- M9: one row, free 7.
@@ -161,9 +161,9 @@ days =
     (lengthOf 118 119 gets takes 59) ∷
     (lengthOf 2000 4 gets takes 30000) ∷
     -- A class due follows the length: 10 1/2, 1 1/5 and 1/2 minutes, after release 10 and with a margin of 60.
-    (reading (soldRow 7 40) gets lasts 11 81 0) ∷
-    (reading (soldRow 1 50) gets lasts 1 71 0) ∷
-    (reading (soldRow 1 120) gets lasts 1 71 0) ∷
+    (reading (soldRow 7 40) gets lasts 11 81 0 7) ∷
+    (reading (soldRow 1 50) gets lasts 1 71 0 1) ∷
+    (reading (soldRow 1 120) gets lasts 1 71 0 1) ∷
     -- So do spares and plans: M1, M7 and M8 at pace 50.
     (printing (nearestRows 12) gets prints (listing 2 (line 11 (pos 6) (902 ∷ 901 ∷ []) ∷ line 12 (pos 0) (901 ∷ 902 ∷ []) ∷ []))) ∷
     (list (nearestRows 13) (0 ∷ 0 ∷ 0 ∷ 0 ∷ []) gets plans 2 (11 ∷ 6 ∷ 12 ∷ 4294967295 ∷ [])) ∷

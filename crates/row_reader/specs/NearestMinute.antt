@@ -2,7 +2,7 @@
 -- Rests on: the limits.
 use Prim.Native.Nat.{ℕ, _+_, _-_, _*_, _/_, _≤_}
 use mathlib.Core.Path.{_≡_}
-use Rattle.schedule.specs.Limits.{longestLength}
+use Rattle.schedule.specs.Limits.{longestLength, mostPages, leastPace, mostPace}
 
 -- Length: the reading time, pages × 60 divided by pace, to the nearest minute, an exact half going up: half a minute is added, and the part
 -- of a minute that is then over dropped. That this is the nearest minute is `NearestMinute`.
@@ -25,4 +25,4 @@ pub record Nearest (pages pace : ℕ) : Type 0 where
 
 -- So it is for every count of pages and every pace that a book may tell.
 abbrev pub NearestMinute : Type 0
-NearestMinute = (pages pace : ℕ) → 1 ≤ pages → pages ≤ 2000 → 4 ≤ pace → pace ≤ 120 → Nearest pages pace
+NearestMinute = (pages pace : ℕ) → 1 ≤ pages → pages ≤ mostPages → leastPace ≤ pace → pace ≤ mostPace → Nearest pages pace

@@ -4,7 +4,7 @@ use Prim.Native.Nat.{ℕ}
 use mathlib.Core.List.{List, map}
 use lib.Dec.{leb}
 use lib.ListN.{length}
-use Rattle.schedule.specs.Limits.{latestMinute, mostRows}
+use Rattle.schedule.specs.Limits.{latestMinute, mostRows, mostPages}
 use Rattle.schedule.specs.declared.Row.{Row}
 use Rattle.schedule.specs.Rows.{stands}
 use Rattle.refusals.specs.declared.Tested.{Tested}
@@ -31,19 +31,21 @@ unfoldable pub rowTests : List ℕ → ℕ → List ℕ → Tested
 rowTests numbers place ws =
     numberTests numbers place ws then
     wordTests 4 0 latestMinute place ws 1 then
-    wordTests 5 1 2000 place ws 2 then
+    wordTests 5 1 mostPages place ws 2 then
     dueTests place ws
 
--- A row of the table: number, release, length, due, and the class or that it has none.
+-- A row of the table: number, release, length, due, the class or that it has none, and the pages.
 abbrev pub rowOf : (pace : ℕ) → List ℕ → Row
 rowOf pace ws =
-    let minutes = lengthOf (value (word ws 2)) pace in
+    let pages = value (word ws 2) in
+    let minutes = lengthOf pages pace in
     record {
       number = value (word ws 0);
       release = value (word ws 1);
       length = minutes;
       due = dueOf (value (word ws 1)) minutes ws;
       class = classOf ws;
+      pages = pages;
     }
 
 -- Opens every definition of this file and of those that it rests on.

@@ -2,7 +2,7 @@
 ghost use mathlib.Core.Path.{_≡_};
 ghost use Prim.Native.Nat.{_≤_, _<_};
 ghost use lib.ListN.{length, take};
-ghost use Rattle.schedule.specs.Limits.{latestMinute, longestLength, mostRows};
+ghost use Rattle.schedule.specs.Limits.{latestMinute, longestLength, mostRows, mostPages, leastPace, mostPace};
 ghost use Rattle.words.specs.Words.{value, word};
 ghost use Rattle.words.specs.WordTests.{lastStart};
 ghost use Rattle.row_reader.specs.Due.{classOf, dueTests, dueBy};
@@ -27,9 +27,6 @@ pub enum RowRead {
 }
 
 impl RowRead {
-    // The most pages of a row.
-    pub const PAGES: u32 = 2_000;
-
     // The last turnaround class.
     pub const LAST_CLASS: u32 = 7;
 }
@@ -92,14 +89,14 @@ fn row_tests(numbers: &[u32; Desk::ROWS], count: usize, place: usize, rest: &[u3
 {
     let number = number_tests(numbers, count, place, rest);
     let release = words::word_tests(4, 0, Desk::MINUTES, place, rest, 1);
-    let pages = words::word_tests(5, 1, RowRead::PAGES, place, rest, 2);
+    let pages = words::word_tests(5, 1, Desk::PAGES, place, rest, 2);
     let due = due_tests(place, rest);
     refusals::then(number, refusals::then(release, refusals::then(pages, due)))
 }
 
 // Length: pages × 60 divided by pace, to the nearest minute, an exact half going up.
-fn length_of(pages: u32, pace: u32) -> u32
-    requires { ⌜ (pages ≤ 2000) × (4 ≤ pace) × (pace ≤ 120) ⌝ }
+pub fn length_of(pages: u32, pace: u32) -> u32
+    requires { ⌜ (pages ≤ mostPages) × (leastPace ≤ pace) × (pace ≤ mostPace) ⌝ }
     ensures { λ r. ⌜ r ≡ lengthOf pages pace ⌝ }
 {
     (2 * (pages * 60) + pace) / (2 * pace)
@@ -127,13 +124,15 @@ fn due_of(class: Class, release: u32, minutes: u32, told: u32) -> u32
 // The row that the first four words of the rest make.
 fn row_of(pace: u32, rest: &[u32]) -> Row
     requires { ⌜ Margined
-        (classOf (now rest)) × (value (word (now rest) 1) ≤ latestMinute) × (value (word (now rest) 2) ≤ 2000) × (4 ≤ pace) × (pace ≤ 120)
+        (classOf (now rest)) × (value (word (now rest) 1) ≤ latestMinute) × (value (word (now rest) 2) ≤ mostPages)
+        × (leastPace ≤ pace) × (pace ≤ mostPace)
         ⌝ }
     ensures { λ r. ⌜ r ≡ rowOf pace (now (rest .entry)) ⌝ }
 {
     let number = words::value_of(words::word_at(rest, 0));
     let release = words::value_of(words::word_at(rest, 1));
-    let minutes = length_of(words::value_of(words::word_at(rest, 2)), pace);
+    let pages = words::value_of(words::word_at(rest, 2));
+    let minutes = length_of(pages, pace);
     let class = class_of(rest);
     let due = due_of(
         class,
@@ -147,6 +146,7 @@ fn row_of(pace: u32, rest: &[u32]) -> Row
         length: minutes,
         due: due,
         class: class,
+        pages: pages,
     }
 }
 
@@ -158,7 +158,8 @@ pub fn read_row(
     place: usize,
     rest: &[u32],
 ) -> RowRead
-    requires { ⌜ (place ≤ lastStart) × (count ≤ mostRows) × (length (now numbers) ≡ mostRows) × (4 ≤ pace) × (pace ≤ 120) ⌝ }
+    requires { ⌜ (place ≤ lastStart) × (count ≤ mostRows) × (length (now numbers) ≡ mostRows)
+        × (leastPace ≤ pace) × (pace ≤ mostPace) ⌝ }
     ensures { λ r. ⌜ r ≡ rowReadOf (rowTests (take count (now (numbers .entry))) place (now (rest .entry)))
         (rowOf pace (now (rest .entry))) ⌝ }
 {

@@ -21,6 +21,16 @@ longestLength = 30000
 abbrev pub latestDue : ℕ
 latestDue = 20000000
 
+-- The most pages of a row; the least and the most pace, in pages an hour.
+abbrev pub mostPages : ℕ
+mostPages = 2000
+
+abbrev pub leastPace : ℕ
+leastPace = 4
+
+abbrev pub mostPace : ℕ
+mostPace = 120
+
 -- The most opening minutes that a call is told, and so the longest time that a row takes at the desk.
 abbrev pub mostOpening : ℕ
 mostOpening = 30

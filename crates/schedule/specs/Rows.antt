@@ -11,7 +11,7 @@ use Rattle.schedule.specs.declared.Class.the-variants.{None}
 
 -- What stands for a row that is not there.
 abbrev pub noRow : Row
-noRow = record { number = 0; release = 0; length = 0; due = 0; class = None }
+noRow = record { number = 0; release = 0; length = 0; due = 0; class = None; pages = 0 }
 
 -- The row of a number from 1 on. (0 is no row, and so is a number past the last.)
 abbrev pub row : List Row → ℕ → Row

@@ -21,6 +21,7 @@ pub struct Row {
     pub release: u32,
     pub length: u32,
     pub due: u32,
+    pub pages: u32,
     pub class: Class,
 }
 
@@ -48,6 +49,13 @@ impl Desk {
     pub const MINUTES: u32 = 10_000_000;
 
     pub const DUES: u32 = 20_000_000;
+
+    // The most pages of a row; the least and the most pace, in pages an hour.
+    pub const PAGES: u32 = 2_000;
+
+    pub const LEAST_PACE: u32 = 4;
+
+    pub const MOST_PACE: u32 = 120;
 
     // The most opening minutes that a call is told.
     pub const OPENING: u32 = 30;
