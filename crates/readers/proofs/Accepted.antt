@@ -60,6 +60,7 @@ accepted-day terms book day e =
       some-row = w .some;
       few-rows = w .few;
       ranged = λ i m. let r = by-number rows (w .ranged) i m in (r .release, r .least, r .most, r .due);
+      pages = λ i m. by-number rows (w .ranged) i m .pages;
       limits = limits rows (all-limited rows (w .ranged));
     }
 

@@ -13,7 +13,7 @@ use Rattle.schedule.specs.declared.Row.{Row}
 use Rattle.schedule.specs.Rows.{job, withOpening}
 use Rattle.schedule.specs.Columns.{at}
 use Rattle.rows.specs.declared.Columns.{Columns}
-use Rattle.rows.specs.InColumns.{Within, jobsOf, RowsInColumns}
+use Rattle.rows.specs.InColumns.{Within, jobsOf, InColumns}
 use Rattle.readers.specs.Times.{Timed}
 use Rattle.readers.proofs.Readings.{SeenIn}
 
@@ -49,10 +49,10 @@ module _ (opening k : ℕ) (lengths times : List ℕ) (wide : length lengths ≡
           subst (λ (j : ℕ). at (set times (k + 1) time) j ≡ opening + at lengths j) e here
 
 -- The columns of a table's rows, with their times in the place of their lengths.
-module _ (opening : ℕ) (rows : List Row) (c : Columns) (columned : RowsInColumns rows c) (times : List ℕ)
+module _ (opening : ℕ) (rows : List Row) (c : Columns) (columned : InColumns (job rows) (length rows) c) (times : List ℕ)
     (t : Timed opening (length rows) (c .length) times) where
   abbrev seen : Columns
-  seen = record { release = c .release; length = times; due = c .due }
+  seen = record { release = c .release; length = times; due = c .due; pages = c .pages }
 
   own-length : (i : ℕ) → 1 ≤ i → i ≤ length rows → at (c .length) i ≡ job rows i .length
   own-length i l m = ap (λ (j : Job). j .length) (columned .jobs i l m)

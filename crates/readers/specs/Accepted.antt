@@ -4,8 +4,8 @@ use Prim.Native.Nat.{ℕ, _≤_, _<_}
 use mathlib.Core.Path.{_≡_}
 use mathlib.Core.List.{List, List·Memᴰ}
 use lib.ListN.{length}
-use Rattle.schedule.specs.Limits.{mostRows, latestMinute, longestLength, latestDue, mostOpening}
-use Rattle.schedule.specs.Rows.{job, Day, jobs, rowNumbers}
+use Rattle.schedule.specs.Limits.{mostRows, latestMinute, longestLength, latestDue, mostPages, mostOpening}
+use Rattle.schedule.specs.Rows.{row, job, Day, jobs, rowNumbers}
 use Rattle.schedule.specs.Profiles.{Obeys}
 use Rattle.book.specs.Rows.{accepted}
 use Rattle.readers.specs.declared.Terms.{Terms}
@@ -25,6 +25,8 @@ pub record AcceptedDay (terms : Terms) (day : Day) : Type 0 where
   pub ranged : (i : ℕ) → List·Memᴰ i (rowNumbers day) →
       (job (day .rows) i .release ≤ latestMinute) × (1 ≤ job (day .rows) i .length) ×
       (job (day .rows) i .length ≤ longestLength) × (job (day .rows) i .due ≤ latestDue)
+  -- The pages of each row.
+  pub pages : (i : ℕ) → List·Memᴰ i (rowNumbers day) → (1 ≤ row (day .rows) i .pages) × (row (day .rows) i .pages ≤ mostPages)
   -- The same limits for every number, also one that no row has.
   pub limits : (i : ℕ) →
       (job (day .rows) i .release ≤ latestMinute) × (job (day .rows) i .length ≤ longestLength) × (job (day .rows) i .due ≤ latestDue)

@@ -16,7 +16,7 @@ use Rattle.refusals.specs.Refusals.{byRange}
 use Rattle.refusals.specs.Tests.{refuseIf}
 use Rattle.book.specs.Rows.{Contents, refused, accepted, refusedOr}
 use Rattle.book.specs.Book.{readWords, openBook}
-use Rattle.rows.specs.InColumns.{InColumns}
+use Rattle.rows.specs.InColumns.{InColumns, Column}
 use Rattle.readers.specs.declared.Terms.{Terms}
 use Rattle.readers.specs.declared.Given.{Given}
 use Rattle.readers.specs.Rules.{ruleTests, openRules}
@@ -56,13 +56,14 @@ abbrev pub outcomeOf : Contents → Tested
 outcomeOf (refused n p) = Refused n p
 outcomeOf (accepted day) = Passed
 
--- What a reader answers of these contents: how the tests came out; and of an accepted day the free minute, the count of rows, and in
--- columns what planning sees of the rows.
+-- What a reader answers of these contents: how the tests came out; and of an accepted day the free minute, the count of rows, in columns
+-- what planning sees of the rows, and their pages.
 pub record Gives (opening : ℕ) (x : Contents) (r : Given) : Type 0 where
   pub outcome : r .outcome ≡ outcomeOf x
   pub free : (day : Day) → x ≡ accepted day → r .free ≡ day .free
   pub count : (day : Day) → x ≡ accepted day → r .count ≡ length (day .rows)
   pub columns : (day : Day) → x ≡ accepted day → InColumns (jobs opening day) (length (day .rows)) (r .columns)
+  pub pages : (day : Day) → x ≡ accepted day → Column (λ row. row .pages) (r .columns .pages) (day .rows)
 
 -- Opens every definition of this file and of those that it rests on: name it on an `unfolding` line where all is to be computed.
 unfoldable pub openReads : Unit {0}

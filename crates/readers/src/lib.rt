@@ -23,8 +23,8 @@ pub struct Terms {
     pub opening: u32,
 }
 
-// What a book gives by the terms: how the tests came out; of an accepted book also the free minute, the count of rows, and in columns what
-// planning sees of the rows.
+// What a book gives by the terms: how the tests came out; of an accepted book also the free minute, the count of rows, and in
+// columns what planning sees of the rows, and their pages.
 pub struct Given {
     pub outcome: Tested,
     pub free: u32,
@@ -134,6 +134,7 @@ pub fn read(terms: Terms, book: &[u32]) -> Given
             release: none,
             length: none,
             due: none,
+            pages: none,
         },
     }
 }

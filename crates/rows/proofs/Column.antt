@@ -1,4 +1,4 @@
--- A number of each row in a column of 257 places: that of row i at place i, and 0 where there is no row. How a column is filled row by row.
+-- How a column with a number of each row is filled row by row.
 -- Assumes nothing.
 use Prim.Native.Nat.{ℕ, zero, suc, _+_, _≤_, _<_}
 use native.Mathlib.Omega.{arith}
@@ -11,9 +11,7 @@ use lib.Seq.{getD-set-same, getD-set-other, getD-take}
 use Rattle.schedule.specs.Limits.{mostRows, rowPlaces}
 use Rattle.schedule.specs.declared.Row.{Row}
 use Rattle.schedule.specs.Rows.{noRow, row}
-
-abbrev pub Column : (Row → ℕ) → List ℕ → List Row → Type 0
-Column f column rows = (length column ≡ rowPlaces) × ((i : ℕ) → getD column i 0 ≡ f (row rows i))
+use Rattle.rows.specs.InColumns.{Column}
 
 zeros : (n i : ℕ) → _≡_ {A = ℕ} (getD (replicate n 0) i 0) 0
 zeros zero i = refl

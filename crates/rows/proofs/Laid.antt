@@ -10,8 +10,8 @@ use Rattle.schedule.specs.Limits.{mostRows, rowPlaces}
 use Rattle.schedule.specs.declared.Row.{Row}
 use Rattle.schedule.specs.Rows.{noRow, job}
 use Rattle.rows.specs.declared.Columns.{Columns}
-use Rattle.rows.specs.InColumns.{jobsOf, Within, RowsInColumns}
-use Rattle.rows.proofs.Column.{Column, column-none, column-more}
+use Rattle.rows.specs.InColumns.{jobsOf, Within, Column, RowsInColumns}
+use Rattle.rows.proofs.Column.{column-none, column-more}
 
 abbrev pub releaseOf : Row → ℕ
 releaseOf r = r .release
@@ -22,22 +22,41 @@ lengthOf r = r .length
 abbrev pub dueOf : Row → ℕ
 dueOf r = r .due
 
--- The columns as the loop leaves them: the job of each row at its number, and nothing at every other place.
+abbrev pub pagesOf : Row → ℕ
+pagesOf r = r .pages
+
+-- The columns as the loop leaves them: the job and the pages of each row at its number, and nothing at every other place.
 pub record Laid (rows : List Row) (c : Columns) : Type 0 where
   pub releases : Column releaseOf (c .release) rows
   pub lengths : Column lengthOf (c .length) rows
   pub dues : Column dueOf (c .due) rows
+  pub pages : Column pagesOf (c .pages) rows
 
 -- Columns of nothing.
 abbrev pub noColumns : Columns
-noColumns = record { release = replicate rowPlaces 0; length = replicate rowPlaces 0; due = replicate rowPlaces 0 }
+noColumns = record {
+  release = replicate rowPlaces 0;
+  length = replicate rowPlaces 0;
+  due = replicate rowPlaces 0;
+  pages = replicate rowPlaces 0;
+}
 
 -- The columns with one row more, at its number.
 abbrev pub withRow : Columns → ℕ → Row → Columns
-withRow c i r = record { release = set (c .release) i (r .release); length = set (c .length) i (r .length); due = set (c .due) i (r .due) }
+withRow c i r = record {
+  release = set (c .release) i (r .release);
+  length = set (c .length) i (r .length);
+  due = set (c .due) i (r .due);
+  pages = set (c .pages) i (r .pages);
+}
 
 pub laid-none : Laid [] noColumns
-laid-none = record { releases = column-none releaseOf refl; lengths = column-none lengthOf refl; dues = column-none dueOf refl }
+laid-none = record {
+  releases = column-none releaseOf refl;
+  lengths = column-none lengthOf refl;
+  dues = column-none dueOf refl;
+  pages = column-none pagesOf refl;
+}
 
 pub laid-more : (rows : List Row) (n : ℕ) (c : Columns) (r : Row) → n < mostRows → r ≡ getD rows n noRow → Laid (take n rows) c →
     Laid (take (n + 1) rows) (withRow c (n + 1) r)
@@ -45,6 +64,7 @@ laid-more rows n c r h e a = record {
   releases = column-more releaseOf (c .release) rows n r h e (a .releases);
   lengths = column-more lengthOf (c .length) rows n r h e (a .lengths);
   dues = column-more dueOf (c .due) rows n r h e (a .dues);
+  pages = column-more pagesOf (c .pages) rows n r h e (a .pages);
 }
 
 -- They hold the rows.
@@ -66,4 +86,8 @@ module _ {rows : List Row} {c : Columns} (a : Laid rows c) where
               rw (List·getD-eq-default rows noRow past) ((omega arith, omega arith, omega arith))
 
   pub in-columns : RowsInColumns rows c
-  in-columns = record { jobs = λ i l m. same i; releases = a .releases .0; lengths = a .lengths .0; dues = a .dues .0; within = within }
+  in-columns = record {
+    columns =
+        record { jobs = λ i l m. same i; releases = a .releases .0; lengths = a .lengths .0; dues = a .dues .0; within = within };
+    pages = a .pages;
+  }

@@ -7,8 +7,8 @@ use lib.ListN.{length}
 use Rattle.theory.specs.Jobs.{Job}
 use Rattle.schedule.specs.Limits.{rowPlaces}
 use Rattle.schedule.specs.declared.Row.{Row}
-use Rattle.schedule.specs.Rows.{job}
-use Rattle.schedule.specs.Columns.{columns}
+use Rattle.schedule.specs.Rows.{row, job}
+use Rattle.schedule.specs.Columns.{at, columns}
 use Rattle.rows.specs.declared.Columns.{Columns}
 
 -- The job of each row number, in columns.
@@ -29,6 +29,11 @@ pub record InColumns (job : ℕ → Job) (n : ℕ) (c : Columns) : Type 0 where
   pub within : (top long late : ℕ) → ((i : ℕ) → 1 ≤ i → i ≤ n → Within top long late (job i)) → (i : ℕ) →
       Within top long late (jobsOf c i)
 
--- The columns hold the rows of a table, as they are.
-abbrev pub RowsInColumns : List Row → Columns → Type 0
-RowsInColumns rows c = InColumns (job rows) (length rows) c
+-- A number of each row in a column of 257 places: that of row i at place i, and 0 where there is no row.
+abbrev pub Column : (Row → ℕ) → List ℕ → List Row → Type 0
+Column f column rows = (length column ≡ rowPlaces) × ((i : ℕ) → at column i ≡ f (row rows i))
+
+-- The columns hold the rows of a table, as they are: their jobs and their pages.
+pub record RowsInColumns (rows : List Row) (c : Columns) : Type 0 where
+  pub columns : InColumns (job rows) (length rows) c
+  pub pages : Column (λ r. r .pages) (c .pages) rows

@@ -11,11 +11,12 @@ use book::Table;
 use schedule::Desk;
 use schedule::Row;
 
-// The rows of a table taken apart: release, length and due of row i stand at place i, and place 0 is for no row.
+// The rows of a table taken apart: release, length, due and pages of row i stand at place i, and place 0 is for no row.
 pub struct Columns {
     pub release: [u32; Desk::PLACES],
     pub length: [u32; Desk::PLACES],
     pub due: [u32; Desk::PLACES],
+    pub pages: [u32; Desk::PLACES],
 }
 
 // The accepted rows of a table: the first of its places, as many as it counts.
@@ -35,18 +36,20 @@ fn row_at(rows: &[Row], i: usize) -> Row
     rows[i]
 }
 
-// Three columns as one.
+// Four columns as one.
 fn joined(
     release: [u32; Desk::PLACES],
     minutes: [u32; Desk::PLACES],
     due: [u32; Desk::PLACES],
+    pages: [u32; Desk::PLACES],
 ) -> Columns
-    ensures { λ r. ⌜ r ≡ record { release = release; length = minutes; due = due } ⌝ }
+    ensures { λ r. ⌜ r ≡ record { release = release; length = minutes; due = due; pages = pages } ⌝ }
 {
     Columns {
         release: release,
         length: minutes,
         due: due,
+        pages: pages,
     }
 }
 
@@ -58,6 +61,7 @@ fn columns_of(rows: &[Row]) -> Columns
     let mut release = [0; Desk::PLACES];
     let mut minutes = [0; Desk::PLACES];
     let mut due = [0; Desk::PLACES];
+    let mut pages = [0; Desk::PLACES];
     let mut i: usize = 0;
     while i < rows.len() {
         let row = row_at(rows, i);
@@ -65,8 +69,9 @@ fn columns_of(rows: &[Row]) -> Columns
         release[i] = row.release;
         minutes[i] = row.length;
         due[i] = row.due;
+        pages[i] = row.pages;
     }
-    joined(release, minutes, due)
+    joined(release, minutes, due, pages)
 }
 
 // The accepted rows of a table, in columns. Once a call, so that picks read plain numbers.

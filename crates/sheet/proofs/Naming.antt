@@ -11,7 +11,8 @@ use Rattle.schedule.specs.Limits.{mostRows, rowPlaces}
 use Rattle.schedule.specs.declared.Row.{Row}
 use Rattle.schedule.specs.Rows.{noRow}
 use Rattle.schedule.proofs.Filling.{mapped-at}
-use Rattle.rows.proofs.Column.{Column, column-none, column-more}
+use Rattle.rows.specs.InColumns.{Column}
+use Rattle.rows.proofs.Column.{column-none, column-more}
 
 -- The numbers of the first n rows, at their places.
 abbrev number : Row → ℕ

@@ -27,7 +27,7 @@ columns-in-requires c κs = fits c .few
 rule-tests-requires : tie.Need-rule-tests-requires
 rule-tests-requires c κs =
     let f = fits (c .before .before .before .before .before) in
-    let k = c .before .before .before .before .columns-in .ensures in
+    let k = c .before .before .before .before .columns-in .ensures .columns in
     let within = k .within latestMinute longestTime latestDue (λ i l m. let g = f .limited i l m in (g .0, omega (arith, g .1), g .2)) in
     (f .few, k .releases, k .lengths, k .dues, within)
 
@@ -37,7 +37,7 @@ then-requires c κs = search needs
 add-opening-requires : tie.Need-add-opening-requires
 add-opening-requires c κs =
     let f = fits (c .before .before .before .before .before .before .before .before) in
-    let k = c .before .before .before .before .before .before .before .columns-in .ensures in
+    let k = c .before .before .before .before .before .before .before .columns-in .ensures .columns in
     (omega arith, f .few, k .lengths, λ i. k .within latestMinute longestLength latestDue (f .limited) i .1)
 
 returns : tie.Need-returns
@@ -52,9 +52,10 @@ returns c =
     let then = c .before .before .then in
     let times = c .add-opening .last .1 .0 in
     let timed = subst (λ (n : ℕ). Timed (a .terms .opening) n (k .result .length) times) (sym (f .size)) (c .add-opening .ensures) in
-    let seen = seen-in (a .terms .opening) rows (k .result) (k .ensures) times timed in
-    let tested = o .ensures rows (f .size) (λ i l m. k .ensures .jobs i l (omega (arith, f .size))) in
-    gives (a .terms) (now (a .book)) (omega arith) (r .result) (r .ensures) _ seen (o .result) tested (then .result) (then .ensures)
+    let seen = seen-in (a .terms .opening) rows (k .result) (k .ensures .columns) times timed in
+    let tested = o .ensures rows (f .size) (λ i l m. k .ensures .columns .jobs i l (omega (arith, f .size))) in
+    gives (a .terms) (now (a .book)) (omega arith) (r .result) (r .ensures) _ seen (k .ensures .pages) (o .result) tested (then .result)
+    (then .ensures)
 
 pub read-told-spec : {M : Type 1} → statement M
 read-told-spec =

@@ -1,4 +1,4 @@
--- `rows::columns_of` meets its contract: a walk of its MIR, by hand, with a loop that stores into three local arrays. It calls `row_at`
+-- `rows::columns_of` meets its contract: a walk of its MIR, by hand, with a loop that stores into four local arrays. It calls `row_at`
 -- and `joined`, of which the proof knows the contracts alone. The slice is Copy: a copy of what it owns goes to each call.
 --     State ys     a turn's start: the index, the columns so far, and that they hold the rows before the index
 --     Inv          the context at a turn's start: each column is a row of elements in its local's memory
@@ -188,8 +188,11 @@ module _ {M : Type 1} (𝓤 : URA M) (H : Heap 𝓤) (A : Atoms 𝓤) (W : Given
       tt,
       tt,
       tt,
-      (c .release, (c .length, (c .due, tt))),
-      (numbers-val (c .release) ∷ [], (numbers-val (c .length) ∷ [], (numbers-val (c .due) ∷ [], tt))),
+      (c .release, (c .length, (c .due, (c .pages, tt)))),
+      (
+        numbers-val (c .release) ∷ [],
+        (numbers-val (c .length) ∷ [], (numbers-val (c .due) ∷ [], (numbers-val (c .pages) ∷ [], tt))),
+      ),
     ),
     tt,
   )
@@ -197,16 +200,31 @@ module _ {M : Type 1} (𝓤 : URA M) (H : Heap 𝓤) (A : Atoms 𝓤) (W : Given
   abbrev Numbers : List ℕ → Type 0
   Numbers xs = Is A32 xs (numbers-val xs ∷ [])
 
-  goes-p : (c : Columns) → Numbers (c .release) → Numbers (c .length) → Numbers (c .due) → ent 𝓤 (emp 𝓤) (P 𝓤 H A mem run .pre (to-p c))
-  goes-p c is-release is-length is-due =
-      qed W [] ∵ nothing ! $ owned ! A32 (Is A32) (array-makes 𝓤 H A W u32 (uint-makes 𝓤 H A W w32) rowPlaces) (c .due) _ is-due $ fjoin ! $
+  goes-p : (c : Columns) → Numbers (c .release) → Numbers (c .length) → Numbers (c .due) → Numbers (c .pages) →
+      ent 𝓤 (emp 𝓤) (P 𝓤 H A mem run .pre (to-p c))
+  goes-p c is-release is-length is-due is-pages =
+      qed W [] ∵ nothing ! $ owned ! A32 (Is A32) (array-makes 𝓤 H A W u32 (uint-makes 𝓤 H A W w32) rowPlaces) (c .pages) _ is-pages $
+      fjoin ! $
+      owned ! A32 (Is A32) (array-makes 𝓤 H A W u32 (uint-makes 𝓤 H A W w32) rowPlaces) (c .due) _ is-due $ fjoin ! $
       owned ! A32 (Is A32) (array-makes 𝓤 H A W u32 (uint-makes 𝓤 H A W w32) rowPlaces) (c .length) _ is-length $ fjoin ! $
       owned ! A32 (Is A32) (array-makes 𝓤 H A W u32 (uint-makes 𝓤 H A W w32) rowPlaces)
       (c .release) _ is-release $ fjoin ! $ nothing ! $ join ! $ frame ! $ done !
 
-  p-said : (c d : Columns) → ent 𝓤 (ensured 𝓤 H A p.ended (p.clauses 𝓤 H A mem run) tt (c .release, (c .length, (c .due, tt))) tt d)
+  p-said : (c d : Columns) → ent 𝓤 (ensured 𝓤 H A p.ended (p.clauses 𝓤 H A mem run) tt (
+    c .release,
+    (
+      c .length,
+      (
+        c .due,
+        (
+          c .pages,
+          tt,
+        ),
+      ),
+    ),
+  ) tt d)
       (fact 𝓤 (d ≡ c))
-  p-said c d = exE 𝓤 _ (λ es. snd∗ 𝓤 (sem 𝓤 H A (lasts p.ended tt (c .release, (c .length, (c .due, tt))) es)) (fact 𝓤 (d ≡ c)))
+  p-said c d = exE 𝓤 _ (λ es. snd∗ 𝓤 (sem 𝓤 H A (lasts p.ended tt (c .release, (c .length, (c .due, (c .pages, tt)))) es)) (fact 𝓤 (d ≡ c)))
 
   -- the next turn's state
   next : (x : State ys) (r : Row) → x .j < length ys → r ≡ getD ys (x .j) noRow → State ys
@@ -249,140 +267,167 @@ module _ {M : Type 1} (𝓤 : URA M) (H : Heap 𝓤) (A : Atoms 𝓤) (W : Given
     inside : (x : State ys) {n : ℕ} → x .j < length ys → n ≡ rowPlaces → x .j + 1 < n
     inside x l e = omega (arith, short)
 
-    module _ (l₀ l₁ l₂ l₃ l₄ l₅ l₆ l₇ l₈ l₉ l₁₀ l₁₁ l₁₂ l₁₃ l₁₄ l₁₅ l₁₆ l₁₇ : ℕ) where
+    module _ (l₀ l₁ l₂ l₃ l₄ l₅ l₆ l₇ l₈ l₉ l₁₀ l₁₁ l₁₂ l₁₃ l₁₄ l₁₅ l₁₆ l₁₇ l₁₈ l₁₉ l₂₀ l₂₁ : ℕ) where
       abbrev En : Env 𝓤 H
-      En = (cols, l₀) ∷ (slice, l₁) ∷ (arr, l₂) ∷ (arr, l₃) ∷ (arr, l₄) ∷ (tyInt w64, l₅) ∷ (record-of-row, l₆) ∷ (tyInt w64, l₇) ∷
-          (tyBool, l₈) ∷ (tyPtr, l₉) ∷ (tyPtr, l₁₀) ∷ (tyPtr, l₁₁) ∷ (tyPtr, l₁₂) ∷ (tyPtr, l₁₃) ∷ (tyPtr, l₁₄) ∷ (arr, l₁₅) ∷
-          (arr, l₁₆) ∷ (arr, l₁₇) ∷ []
+      En = (cols, l₀) ∷ (slice, l₁) ∷ (arr, l₂) ∷ (arr, l₃) ∷ (arr, l₄) ∷ (arr, l₅) ∷ (tyInt w64, l₆) ∷ (record-of-row, l₇) ∷ (
+        tyInt w64,
+        l₈,
+      ) ∷
+          (tyBool, l₉) ∷ (tyPtr, l₁₀) ∷ (tyPtr, l₁₁) ∷ (tyPtr, l₁₂) ∷ (tyPtr, l₁₃) ∷ (tyPtr, l₁₄) ∷ (tyPtr, l₁₅) ∷ (tyPtr, l₁₆) ∷ (
+            tyPtr,
+            l₁₇,
+          ) ∷ (arr, l₁₈) ∷ (arr, l₁₉) ∷ (arr, l₂₀) ∷ (arr, l₂₁) ∷ []
 
       abbrev Inv : State ys → List (Item 𝓤)
-      Inv x = ‵ (row u32 fullShare (x .c .due) l₄ 0) ∷ ‵ (row u32 fullShare (x .c .length) l₃ 0) ∷ ‵
-          (row u32 fullShare (x .c .release) l₂ 0) ∷ tok ∷ ‵ Own
-          ∷ ‵ (froom arr l₁₇ 0) ∷ ‵ (fdies arr l₁₇) ∷ ‵ (froom arr l₁₆ 0) ∷ ‵ (fdies arr l₁₆) ∷ ‵ (froom arr l₁₅ 0) ∷ ‵
-          (fdies arr l₁₅) ∷ ‵ (froom tyPtr l₁₄ 0) ∷ ‵ (fdies tyPtr l₁₄) ∷ ‵ (froom tyPtr l₁₃ 0) ∷ ‵ (fdies tyPtr l₁₃) ∷ ‵
-          (froom tyPtr l₁₂ 0) ∷ ‵ (fdies tyPtr l₁₂) ∷ ‵ (froom tyPtr l₁₁ 0) ∷ ‵ (fdies tyPtr l₁₁) ∷ ‵ (froom tyPtr l₁₀ 0) ∷ ‵
-          (fdies tyPtr l₁₀) ∷ ‵ (froom tyPtr l₉ 0) ∷ ‵ (fdies tyPtr l₉) ∷ ‵ (froom tyBool l₈ 0) ∷ ‵ (fdies tyBool l₈) ∷ ‵
-          (froom (tyInt w64) l₇ 0) ∷ ‵ (fdies (tyInt w64) l₇) ∷ ‵ (froom record-of-row l₆ 0) ∷ ‵ (fdies record-of-row l₆)
-          ∷ ‵ (fat fullShare (tyInt w64) l₅ 0 (vint w64 (x .j))) ∷ ‵ (fdies (tyInt w64) l₅) ∷ ‵ (fdies arr l₄) ∷ ‵ (fdies arr l₃) ∷ ‵
-          (fdies arr l₂)
+      Inv x = ‵ (row u32 fullShare (x .c .pages) l₅ 0) ∷ ‵ (row u32 fullShare (x .c .due) l₄ 0) ∷ ‵
+          (row u32 fullShare (x .c .length) l₃ 0) ∷ ‵ (row u32 fullShare (x .c .release) l₂ 0) ∷ tok ∷ ‵ Own
+          ∷ ‵ (froom arr l₂₁ 0) ∷ ‵ (fdies arr l₂₁) ∷ ‵ (froom arr l₂₀ 0) ∷ ‵ (fdies arr l₂₀) ∷ ‵ (froom arr l₁₉ 0) ∷ ‵ (fdies arr l₁₉) ∷
+          ‵ (froom arr l₁₈ 0) ∷ ‵ (fdies arr l₁₈) ∷ ‵ (froom tyPtr l₁₇ 0) ∷ ‵ (fdies tyPtr l₁₇) ∷ ‵ (froom tyPtr l₁₆ 0) ∷ ‵ (fdies tyPtr
+          l₁₆) ∷ ‵ (froom tyPtr l₁₅ 0) ∷ ‵ (fdies tyPtr l₁₅) ∷ ‵ (froom tyPtr l₁₄ 0) ∷ ‵ (fdies tyPtr l₁₄) ∷ ‵ (froom tyPtr l₁₃ 0) ∷ ‵
+          (fdies tyPtr l₁₃) ∷ ‵ (froom tyPtr l₁₂ 0) ∷ ‵ (fdies tyPtr l₁₂) ∷ ‵ (froom tyPtr l₁₁ 0) ∷ ‵ (fdies tyPtr l₁₁) ∷ ‵ (froom tyPtr
+          l₁₀ 0) ∷ ‵ (fdies tyPtr l₁₀) ∷ ‵ (froom tyBool l₉ 0) ∷ ‵ (fdies tyBool l₉) ∷ ‵ (froom (tyInt w64) l₈ 0) ∷ ‵ (fdies (tyInt w64)
+          l₈) ∷ ‵
+          (froom record-of-row l₇ 0) ∷ ‵ (fdies record-of-row l₇)
+          ∷ ‵ (fat fullShare (tyInt w64) l₆ 0 (vint w64 (x .j))) ∷ ‵ (fdies (tyInt w64) l₆) ∷ ‵ (fdies arr l₅) ∷ ‵ (fdies arr l₄) ∷ ‵
+          (fdies arr l₃) ∷ ‵ (fdies arr l₂)
           ∷ ‵ (fat fullShare slice l₁ 0 sv) ∷ ‵ (fdies slice l₁) ∷ ‵ (froom cols l₀ 0) ∷ ‵ (fdies cols l₀) ∷ []
 
       -- a turn's postcondition: it ends nearer to the end, or the loop is left and the rest of the body runs
       abbrev Turned : State ys → Out → SProp 𝓤
       Turned x = afterTurn 𝓤 H (Below 𝓤 H A (Nearer ys) Inv x)
-          (afterBlock 𝓤 H (afterSeq 𝓤 H (Wp 𝓤 H C Λ En code-mir.t-6 (atReturn 𝓤 H En Post)) (atReturn 𝓤 H En Post)))
+          (afterBlock 𝓤 H (afterSeq 𝓤 H (Wp 𝓤 H C Λ En code-mir.t-7 (atReturn 𝓤 H En Post)) (atReturn 𝓤 H En Post)))
 
       turns : (x : State ys) → Sq W (Inv x) (runs C Λ En code-mir.turn-1 (anyQ (Turned x)))
       unfolding afterTurn next
       turns x =
-          assigns ! (of-opd ! (load ! (from ! (fld ! refl (stop !))) (look-in ! 34 (sub ! 1 refl (whole !))))) (from ! (stop !))
-          (init ! 25 refl (tt, record { fits = gn .0 })) $
-          assigns ! (bin ! (load ! (from ! (stop !)) (look ! 29 refl)) (load ! (from ! (stop !)) (look ! 25 refl)) tt) (from ! (stop !))
-          (init ! 23 refl (tt, tt)) $
-          first ! $ branches ! (load ! (from ! (stop !)) (look ! 23 refl))
+          assigns ! (of-opd ! (load ! (from ! (fld ! refl (stop !))) (look-in ! 42 (sub ! 1 refl (whole !))))) (from ! (stop !))
+          (init ! 32 refl (tt, record { fits = gn .0 })) $
+          assigns ! (bin ! (load ! (from ! (stop !)) (look ! 36 refl)) (load ! (from ! (stop !)) (look ! 32 refl)) tt) (from ! (stop !))
+          (init ! 30 refl (tt, tt)) $
+          first ! $ branches ! (load ! (from ! (stop !)) (look ! 30 refl))
           (λ less. let l : x .j < length ys = ltb→lt (x .j) (length ys) less in
           skips ! $ exec ! C Λ En more (anyQ (Turned x)) $
           -- a copy of the slice goes to `row_at`
-          move ! (4 ∷ []) $ use1 W (‵ Own ⊛ ‵ Own) (shr-slice-copy 𝓤 H A W (named 0) κ R .twice s (sv ∷ [])) $ split ! $ move !
-          (5 ∷ 0 ∷ []) $ use2 W (raw (D 𝓤 H A mem run .pre (to-d (x .j)))) (goes-d (x .j) l) $
+          move ! (5 ∷ []) $ use1 W (‵ Own ⊛ ‵ Own) (shr-slice-copy 𝓤 H A W (named 0) κ R .twice s (sv ∷ [])) $ split ! $ move !
+          (6 ∷ 0 ∷ []) $ use2 W (raw (D 𝓤 H A mem run .pre (to-d (x .j)))) (goes-d (x .j) l) $
           calls-at ! fm (D 𝓤 H A mem run) known-d (to-d (x .j))
-          (and-then ! (load ! (from ! (stop !)) (look ! 34 refl))
-          (and-then ! (load ! (from ! (stop !)) (look ! 29 refl)) (no-more !))) (λ u.
+          (and-then ! (load ! (from ! (stop !)) (look ! 42 refl))
+          (and-then ! (load ! (from ! (stop !)) (look ! 36 refl)) (no-more !))) (λ u.
           use1 W (later
           (some (λ (r : Row). (tok ⊛ ‵ (R .own r (u ∷ []))) ⊛ raw
           (ensured 𝓤 H A d.ended (d.clauses 𝓤 H A mem run) (κ, tt) (s, (x .j, tt)) tt r)))) (id⊢ 𝓤 _) $ await ! tt $ pick ! (λ r.
           split ! $ move ! (1 ∷ []) $ use1 W (raw (fact 𝓤 (r ≡ getD ys (x .j) noRow))) (d-said (x .j) r) $ heard !
           (r ≡ getD ys (x .j) noRow) (λ e. split ! $ move ! (1 ∷ []) $ facts ! R (Is R) (shows 𝓤 H A R) r (u ∷ []) (λ ok.
-          land ! (from ! (stop !)) (init ! 27 refl (LL.lawful T.the-type T′.the-laws 𝓤 H A W .typed r _ ok .0)) $
-          rewrite ! 27 (λ (vs : List Val). ‵ (fat fullShare record-of-row l₆ 0 (only vs)))
+          land ! (from ! (stop !)) (init ! 34 refl (LL.lawful T.the-type T′.the-laws 𝓤 H A W .typed r _ ok .0)) $
+          rewrite ! 34 (λ (vs : List Val). ‵ (fat fullShare record-of-row l₇ 0 (only vs)))
           (LL.tells T.the-type T′.the-laws r (u ∷ []) ok) refl $
           let wt = LL.lawful T.the-type T′.the-laws 𝓤 H A W .typed r _
           (subst (Is R r) (LL.tells T.the-type T′.the-laws r (u ∷ []) ok) ok) in
-          move ! (2 ∷ 3 ∷ 4 ∷ []) $
-          assigns ! (bin ! (load ! (from ! (stop !)) (look ! 29 refl)) (lit ! tt) (record { fits = fits l })) (from ! (stop !))
-          (store ! 29 refl (tt, record { fits = fits l })) $
-          -- the three stores: each column's row of elements is at the third place, and goes to the front
-          assigns ! (bin ! (load ! (from ! (stop !)) (look ! 29 refl)) (lit ! tt) (record { fits = fits4 l })) (from ! (stop !))
-          (store ! 25 refl (tt, record { fits = fits4 l })) $
-          assigns ! (addr ! (from ! (stop !))) (from ! (stop !)) (init ! 21 refl (tt, tt)) $
-          assigns ! (bin ! (load ! (from ! (stop !)) (look ! 21 refl)) (load ! (from ! (stop !)) (look ! 25 refl)) tt) (from ! (stop !))
-          (init ! 19 refl (tt, tt)) $
-          rewrite ! 19 (λ (k : ℕ). ‵ (fat fullShare tyPtr l₁₀ 0 (vptr l₂ k))) (sym (place-is 4 0 (x .j + 1))) refl $
-          move ! (2 ∷ []) $ elem-out ! u32 (Is u32) (shows 𝓤 H A u32) (uint-vals w32) (uint-tells w32) fullShare (x .c .release)
+          move ! (2 ∷ 3 ∷ 4 ∷ 5 ∷ []) $
+          assigns ! (bin ! (load ! (from ! (stop !)) (look ! 36 refl)) (lit ! tt) (record { fits = fits l })) (from ! (stop !))
+          (store ! 36 refl (tt, record { fits = fits l })) $
+          -- the four stores: each column's row of elements is at the fourth place, and goes to the front
+          assigns ! (bin ! (load ! (from ! (stop !)) (look ! 36 refl)) (lit ! tt) (record { fits = fits4 l })) (from ! (stop !))
+          (store ! 32 refl (tt, record { fits = fits4 l })) $
+          assigns ! (addr ! (from ! (stop !))) (from ! (stop !)) (init ! 28 refl (tt, tt)) $
+          assigns ! (bin ! (load ! (from ! (stop !)) (look ! 28 refl)) (load ! (from ! (stop !)) (look ! 32 refl)) tt) (from ! (stop !))
+          (init ! 26 refl (tt, tt)) $
+          rewrite ! 26 (λ (k : ℕ). ‵ (fat fullShare tyPtr l₁₁ 0 (vptr l₂ k))) (sym (place-is 4 0 (x .j + 1))) refl $
+          move ! (3 ∷ []) $ elem-out ! u32 (Is u32) (shows 𝓤 H A u32) (uint-vals w32) (uint-tells w32) fullShare (x .c .release)
           (x .j + 1) 0 l₂ 0 (inside x l (x .got .releases .0)) (λ _.
-          assigns ! (of-opd ! (load ! (from ! (fld ! refl (stop !))) (look-in ! 29 (sub ! 1 refl (whole !)))))
-          (from ! (hop ! (look ! 21 refl) (stop !))) (store ! 0 refl (tt, wt .0 .1 .1 .0)) $
+          assigns ! (of-opd ! (load ! (from ! (fld ! refl (stop !))) (look-in ! 36 (sub ! 1 refl (whole !)))))
+          (from ! (hop ! (look ! 28 refl) (stop !))) (store ! 0 refl (tt, wt .0 .1 .1 .0)) $
           move ! (1 ∷ []) $ drop ! $ owned ! u32 (Is u32) (uint-makes 𝓤 H A W w32) (r .release) _ (refl, wt .0 .1 .1 .0 .fits) $ move !
           (1 ∷ 0 ∷ []) $ elem-put ! u32 fullShare (x .c .release) (x .j + 1) (r .release) (vint w32 (r .release) ∷ []) l₂ 0
           (inside x l (x .got .releases .0)) $
-          assigns ! (bin ! (load ! (from ! (stop !)) (look ! 29 refl)) (lit ! tt) (record { fits = fits4 l })) (from ! (stop !))
-          (store ! 25 refl (tt, record { fits = fits4 l })) $
-          assigns ! (addr ! (from ! (stop !))) (from ! (stop !)) (init ! 17 refl (tt, tt)) $
-          assigns ! (bin ! (load ! (from ! (stop !)) (look ! 17 refl)) (load ! (from ! (stop !)) (look ! 25 refl)) tt) (from ! (stop !))
-          (init ! 15 refl (tt, tt)) $
-          rewrite ! 15 (λ (k : ℕ). ‵ (fat fullShare tyPtr l₁₂ 0 (vptr l₃ k))) (sym (place-is 4 0 (x .j + 1))) refl $
-          move ! (2 ∷ []) $ elem-out ! u32 (Is u32) (shows 𝓤 H A u32) (uint-vals w32) (uint-tells w32) fullShare (x .c .length)
+          assigns ! (bin ! (load ! (from ! (stop !)) (look ! 36 refl)) (lit ! tt) (record { fits = fits4 l })) (from ! (stop !))
+          (store ! 32 refl (tt, record { fits = fits4 l })) $
+          assigns ! (addr ! (from ! (stop !))) (from ! (stop !)) (init ! 24 refl (tt, tt)) $
+          assigns ! (bin ! (load ! (from ! (stop !)) (look ! 24 refl)) (load ! (from ! (stop !)) (look ! 32 refl)) tt) (from ! (stop !))
+          (init ! 22 refl (tt, tt)) $
+          rewrite ! 22 (λ (k : ℕ). ‵ (fat fullShare tyPtr l₁₃ 0 (vptr l₃ k))) (sym (place-is 4 0 (x .j + 1))) refl $
+          move ! (3 ∷ []) $ elem-out ! u32 (Is u32) (shows 𝓤 H A u32) (uint-vals w32) (uint-tells w32) fullShare (x .c .length)
           (x .j + 1) 0 l₃ 0 (inside x l (x .got .lengths .0)) (λ _.
-          assigns ! (of-opd ! (load ! (from ! (fld ! refl (stop !))) (look-in ! 29 (sub ! 2 refl (whole !)))))
-          (from ! (hop ! (look ! 17 refl) (stop !))) (store ! 0 refl (tt, wt .0 .1 .1 .1 .0)) $
+          assigns ! (of-opd ! (load ! (from ! (fld ! refl (stop !))) (look-in ! 36 (sub ! 2 refl (whole !)))))
+          (from ! (hop ! (look ! 24 refl) (stop !))) (store ! 0 refl (tt, wt .0 .1 .1 .1 .0)) $
           move ! (1 ∷ []) $ drop ! $ owned ! u32 (Is u32) (uint-makes 𝓤 H A W w32) (r .length) _ (refl, wt .0 .1 .1 .1 .0 .fits) $ move !
           (1 ∷ 0 ∷ []) $ elem-put ! u32 fullShare (x .c .length) (x .j + 1) (r .length) (vint w32 (r .length) ∷ []) l₃ 0
           (inside x l (x .got .lengths .0)) $
-          assigns ! (bin ! (load ! (from ! (stop !)) (look ! 29 refl)) (lit ! tt) (record { fits = fits4 l })) (from ! (stop !))
-          (store ! 25 refl (tt, record { fits = fits4 l })) $
-          assigns ! (addr ! (from ! (stop !))) (from ! (stop !)) (init ! 13 refl (tt, tt)) $
-          assigns ! (bin ! (load ! (from ! (stop !)) (look ! 13 refl)) (load ! (from ! (stop !)) (look ! 25 refl)) tt) (from ! (stop !))
-          (init ! 11 refl (tt, tt)) $
-          rewrite ! 11 (λ (k : ℕ). ‵ (fat fullShare tyPtr l₁₄ 0 (vptr l₄ k))) (sym (place-is 4 0 (x .j + 1))) refl $
-          move ! (2 ∷ []) $ elem-out ! u32 (Is u32) (shows 𝓤 H A u32) (uint-vals w32) (uint-tells w32) fullShare (x .c .due)
+          assigns ! (bin ! (load ! (from ! (stop !)) (look ! 36 refl)) (lit ! tt) (record { fits = fits4 l })) (from ! (stop !))
+          (store ! 32 refl (tt, record { fits = fits4 l })) $
+          assigns ! (addr ! (from ! (stop !))) (from ! (stop !)) (init ! 20 refl (tt, tt)) $
+          assigns ! (bin ! (load ! (from ! (stop !)) (look ! 20 refl)) (load ! (from ! (stop !)) (look ! 32 refl)) tt) (from ! (stop !))
+          (init ! 18 refl (tt, tt)) $
+          rewrite ! 18 (λ (k : ℕ). ‵ (fat fullShare tyPtr l₁₅ 0 (vptr l₄ k))) (sym (place-is 4 0 (x .j + 1))) refl $
+          move ! (3 ∷ []) $ elem-out ! u32 (Is u32) (shows 𝓤 H A u32) (uint-vals w32) (uint-tells w32) fullShare (x .c .due)
           (x .j + 1) 0 l₄ 0 (inside x l (x .got .dues .0)) (λ _.
-          assigns-last ! (of-opd ! (load ! (from ! (fld ! refl (stop !))) (look-in ! 29 (sub ! 3 refl (whole !)))))
-          (from ! (hop ! (look ! 13 refl) (stop !))) (store ! 0 refl (tt, wt .0 .1 .1 .1 .1 .0)) $
+          assigns ! (of-opd ! (load ! (from ! (fld ! refl (stop !))) (look-in ! 36 (sub ! 3 refl (whole !)))))
+          (from ! (hop ! (look ! 20 refl) (stop !))) (store ! 0 refl (tt, wt .0 .1 .1 .1 .1 .0)) $
           move ! (1 ∷ []) $ drop ! $ owned ! u32 (Is u32) (uint-makes 𝓤 H A W w32) (r .due) _ (refl, wt .0 .1 .1 .1 .1 .0 .fits) $ move !
           (1 ∷ 0 ∷ []) $ elem-put ! u32 fullShare (x .c .due) (x .j + 1) (r .due) (vint w32 (r .due) ∷ []) l₄ 0
           (inside x l (x .got .dues .0)) $
-          forget ! 11 refl $ forget ! 13 refl $ forget ! 15 refl $ forget ! 17 refl $ forget ! 19 refl $ forget ! 21 refl $
-          forget ! 23 refl $ forget ! 25 refl $ forget ! 27 refl $
-          again ! (Nearer ys) Inv x (next x r l e) (nearer (length ys) (x .j) l)))))))))
-          (λ over. jumps ! $ exec ! C Λ En code-mir.t-6 (atRet En Post) $
+          assigns ! (bin ! (load ! (from ! (stop !)) (look ! 36 refl)) (lit ! tt) (record { fits = fits4 l })) (from ! (stop !))
+          (store ! 32 refl (tt, record { fits = fits4 l })) $
+          assigns ! (addr ! (from ! (stop !))) (from ! (stop !)) (init ! 16 refl (tt, tt)) $
+          assigns ! (bin ! (load ! (from ! (stop !)) (look ! 16 refl)) (load ! (from ! (stop !)) (look ! 32 refl)) tt) (from ! (stop !))
+          (init ! 14 refl (tt, tt)) $
+          rewrite ! 14 (λ (k : ℕ). ‵ (fat fullShare tyPtr l₁₇ 0 (vptr l₅ k))) (sym (place-is 4 0 (x .j + 1))) refl $
+          move ! (3 ∷ []) $ elem-out ! u32 (Is u32) (shows 𝓤 H A u32) (uint-vals w32) (uint-tells w32) fullShare (x .c .pages)
+          (x .j + 1) 0 l₅ 0 (inside x l (x .got .pages .0)) (λ _.
+          assigns-last ! (of-opd ! (load ! (from ! (fld ! refl (stop !))) (look-in ! 36 (sub ! 4 refl (whole !)))))
+          (from ! (hop ! (look ! 16 refl) (stop !))) (store ! 0 refl (tt, wt .0 .1 .1 .1 .1 .1 .0)) $
+          move ! (1 ∷ []) $ drop ! $ owned ! u32 (Is u32) (uint-makes 𝓤 H A W w32) (r .pages) _ (refl, wt .0 .1 .1 .1 .1 .1 .0 .fits) $
+          move !
+          (1 ∷ 0 ∷ []) $ elem-put ! u32 fullShare (x .c .pages) (x .j + 1) (r .pages) (vint w32 (r .pages) ∷ []) l₅ 0
+          (inside x l (x .got .pages .0)) $
+          forget ! 14 refl $ forget ! 16 refl $ forget ! 18 refl $ forget ! 20 refl $ forget ! 22 refl $ forget ! 24 refl $ forget ! 26
+          refl $ forget ! 28 refl $ forget ! 30 refl $ forget ! 32 refl $ forget ! 34 refl $
+          again ! (Nearer ys) Inv x (next x r l e) (nearer (length ys) (x .j) l))))))))))
+          (λ over. jumps ! $ exec ! C Λ En code-mir.t-7 (atRet En Post) $
           -- each column is whole again, in its local
+          use1 W (given (Numbers (x .c .pages)) (‵ (fat fullShare arr l₅ 0 (numbers-val (x .c .pages)))))
+          (cells-back 𝓤 H A W rowPlaces (x .c .pages) l₅ (x .got .pages .0)) $ learn ! (λ is-pages. move ! (1 ∷ []) $
           use1 W (given (Numbers (x .c .due)) (‵ (fat fullShare arr l₄ 0 (numbers-val (x .c .due)))))
-          (cells-back 𝓤 H A W rowPlaces (x .c .due) l₄ (x .got .dues .0)) $ learn ! (λ is-due. move ! (1 ∷ []) $
+          (cells-back 𝓤 H A W rowPlaces (x .c .due) l₄ (x .got .dues .0)) $ learn ! (λ is-due. move ! (2 ∷ []) $
           use1 W (given (Numbers (x .c .length)) (‵ (fat fullShare arr l₃ 0 (numbers-val (x .c .length)))))
-          (cells-back 𝓤 H A W rowPlaces (x .c .length) l₃ (x .got .lengths .0)) $ learn ! (λ is-length. move ! (2 ∷ []) $
+          (cells-back 𝓤 H A W rowPlaces (x .c .length) l₃ (x .got .lengths .0)) $ learn ! (λ is-length. move ! (3 ∷ []) $
           use1 W (given (Numbers (x .c .release)) (‵ (fat fullShare arr l₂ 0 (numbers-val (x .c .release)))))
           (cells-back 𝓤 H A W rowPlaces (x .c .release) l₂ (x .got .releases .0)) $ learn ! (λ is-release.
           assigns ! (of-opd ! (load ! (from ! (stop !)) (look ! 0 refl))) (from ! (stop !))
-          (init ! 9 refl (numbers-typed (x .c .release) is-release)) $
+          (init ! 12 refl (numbers-typed (x .c .release) is-release)) $
           assigns ! (of-opd ! (load ! (from ! (stop !)) (look ! 1 refl))) (from ! (stop !))
-          (init ! 7 refl (numbers-typed (x .c .length) is-length)) $
+          (init ! 10 refl (numbers-typed (x .c .length) is-length)) $
           assigns ! (of-opd ! (load ! (from ! (stop !)) (look ! 2 refl))) (from ! (stop !))
-          (init ! 5 refl (numbers-typed (x .c .due) is-due)) $
-          use0 W (raw (P 𝓤 H A mem run .pre (to-p (x .c)))) (goes-p (x .c) is-release is-length is-due) $
+          (init ! 8 refl (numbers-typed (x .c .due) is-due)) $
+          assigns ! (of-opd ! (load ! (from ! (stop !)) (look ! 3 refl))) (from ! (stop !))
+          (init ! 6 refl (numbers-typed (x .c .pages) is-pages)) $
+          use0 W (raw (P 𝓤 H A mem run .pre (to-p (x .c)))) (goes-p (x .c) is-release is-length is-due is-pages) $
           calls-at ! fm (P 𝓤 H A mem run) known-p (to-p (x .c))
-          (and-then ! (load ! (from ! (stop !)) (look ! 10 refl))
-          (and-then ! (load ! (from ! (stop !)) (look ! 8 refl)) (and-then ! (load ! (from ! (stop !)) (look ! 6 refl)) (no-more !))))
+          (and-then ! (load ! (from ! (stop !)) (look ! 13 refl))
+          (and-then ! (load ! (from ! (stop !)) (look ! 11 refl))
+          (and-then ! (load ! (from ! (stop !)) (look ! 9 refl)) (and-then ! (load ! (from ! (stop !)) (look ! 7 refl)) (no-more !)))))
           (λ u.
           use1 W (later
           (some (λ (d : Columns). (‵ ftrue ⊛ ‵ (CT .own d (u ∷ []))) ⊛ raw
-          (ensured 𝓤 H A p.ended (p.clauses 𝓤 H A mem run) tt (x .c .release, (x .c .length, (x .c .due, tt))) tt d))))
+          (ensured 𝓤 H A p.ended (p.clauses 𝓤 H A mem run) tt
+          (x .c .release, (x .c .length, (x .c .due, (x .c .pages, tt)))) tt d))))
           (id⊢ 𝓤 _) $ await ! tt $ pick ! (λ d.
           split ! $ move ! (1 ∷ []) $ use1 W (raw (fact 𝓤 (d ≡ x .c))) (p-said (x .c) d) $ heard ! (d ≡ x .c)
           (λ e. split ! $ drop ! $ facts ! CT (Is CT) (shows 𝓤 H A CT) d (u ∷ []) (λ ok.
-          land ! (from ! (stop !)) (init ! 36 refl (typed d u ok)) $
-          returns !
-          (look ! 36 refl) $ forget ! 0 refl $ forget ! 1 refl $ forget ! 2 refl $ forget ! 5 refl $ forget ! 7 refl $
-          forget ! 9 refl $ forget ! 23 refl $ forget ! 25 refl $ forget ! 29 refl $ forget ! 34 refl $ forget ! 36 refl $
-          move ! (36 ∷ 37 ∷ []) $ free1 ! $ move ! (34 ∷ 35 ∷ []) $ free1 ! $ move ! (0 ∷ 33 ∷ []) $ free1 ! $ move !
-          (0 ∷ 31 ∷ []) $ free1 ! $ move ! (0 ∷ 29 ∷ []) $ free1 ! $
-          move ! (26 ∷ 27 ∷ []) $ free1 ! $ move ! (24 ∷ 25 ∷ []) $ free1 ! $ move ! (22 ∷ 23 ∷ []) $ free1 ! $ move !
-          (20 ∷ 21 ∷ []) $ free1 ! $ move ! (18 ∷ 19 ∷ []) $ free1 ! $ move ! (16 ∷ 17 ∷ []) $ free1 ! $ move !
-          (14 ∷ 15 ∷ []) $ free1 ! $ move ! (12 ∷ 13 ∷ []) $ free1 ! $ move ! (10 ∷ 11 ∷ []) $ free1 ! $ move !
-          (8 ∷ 9 ∷ []) $ free1 ! $ move ! (6 ∷ 7 ∷ []) $ free1 ! $ move ! (4 ∷ 5 ∷ []) $ free1 ! $ move !
-          (2 ∷ 3 ∷ []) $ free1 ! $ free0 ! $
+          land ! (from ! (stop !)) (init ! 44 refl (typed d u ok)) $
+          returns ! (look ! 44 refl) $
+          forget ! 0 refl $ forget ! 1 refl $ forget ! 2 refl $ forget ! 3 refl $ forget ! 6 refl $ forget ! 8 refl $ forget ! 10 refl $
+          forget ! 12 refl $ forget ! 30 refl $ forget ! 32 refl $ forget ! 36 refl $ forget ! 42 refl $ forget ! 44 refl $
+          move ! (44 ∷ 45 ∷ []) $ free1 ! $ move ! (42 ∷ 43 ∷ []) $ free1 ! $ move ! (0 ∷ 41 ∷ []) $ free1 ! $ move !
+          (0 ∷ 39 ∷ []) $ free1 ! $ move ! (0 ∷ 37 ∷ []) $ free1 ! $ move ! (0 ∷ 35 ∷ []) $ free1 ! $
+          move ! (32 ∷ 33 ∷ []) $ free1 ! $ move ! (30 ∷ 31 ∷ []) $ free1 ! $ move ! (28 ∷ 29 ∷ []) $ free1 ! $ move ! (26 ∷ 27 ∷ []) $
+          free1 ! $ move ! (24 ∷ 25 ∷ []) $ free1 ! $ move ! (22 ∷ 23 ∷ []) $ free1 ! $ move ! (20 ∷ 21 ∷ []) $ free1 ! $ move ! (18 ∷ 19
+          ∷ []) $ free1 ! $ move ! (16 ∷ 17 ∷ []) $ free1 ! $ move ! (14 ∷ 15 ∷ []) $ free1 ! $ move ! (12 ∷ 13 ∷ []) $ free1 ! $ move !
+          (10 ∷ 11 ∷ []) $ free1 ! $ move ! (8 ∷ 9 ∷ []) $ free1 ! $ move ! (6 ∷ 7 ∷ []) $ free1 ! $ move ! (4 ∷ 5 ∷ []) $ free1 ! $ move
+          ! (2 ∷ 3 ∷ []) $ free1 ! $ free0 ! $
           by ! (exits d u ok (subst (RowsInColumns ys) (sym e)
           (in-columns (subst (λ (zs : List Row). Laid zs (x .c)) (take-all (x .j) ys (nltb→le (x .j) (length ys) over))
-          (x .got)))))))))))))
+          (x .got))))))))))))))
         where
           fits : x .j < length ys → x .j + 1 < 2 ^ 64
           fits l = omega (arith, gn .0)
@@ -394,39 +439,32 @@ module _ {M : Type 1} (𝓤 : URA M) (H : Heap 𝓤) (A : Atoms 𝓤) (W : Given
     unfolding start
     walk =
         qed W (tok ∷ ‵ (owns (ShrSlice (named 0) κ R ∷ []) (s, tt) (sv ∷ [], tt)) ∷ []) ∵ enter ! C Λ code.function (sv ∷ []) _ $
-        alloc1 ! (λ l₀. alloc1 ! (λ l₁. alloc1 !
-        (λ l₂. alloc1 !
-        (λ l₃. alloc1 !
-        (λ l₄. alloc1 !
-        (λ l₅. alloc1 !
-        (λ l₆. alloc1 !
-        (λ l₇. alloc1 !
-        (λ l₈. alloc1 !
-        (λ l₉. alloc1 !
-        (λ l₁₀. alloc1 !
-        (λ l₁₁. alloc1 !
-        (λ l₁₂. alloc1 !
-        (λ l₁₃. alloc1 !
-        (λ l₁₄. alloc1 !
-        (λ l₁₅. alloc1 !
-        (λ l₁₆. alloc1 ! (λ l₁₇. alloc0 ! $ params1 ! $ pass1 ! (init ! 32 refl (tt, (tt, (record { fits = gn .0 }, tt)))) $ pass0 ! $
-        assigns ! (rep ! rowPlaces (lit ! tt)) (from ! (stop !)) (init ! 30 refl zeros-typed) $
-        assigns ! (rep ! rowPlaces (lit ! tt)) (from ! (stop !)) (init ! 28 refl zeros-typed) $
-        assigns ! (rep ! rowPlaces (lit ! tt)) (from ! (stop !)) (init ! 26 refl zeros-typed) $
-        assigns ! (of-opd ! (lit ! tt)) (from ! (stop !)) (init ! 24 refl (tt, record { fits = lit< tt })) $
+        alloc1 ! (λ l₀. alloc1 ! (λ l₁. alloc1 ! (λ l₂. alloc1 ! (λ l₃. alloc1 ! (λ l₄. alloc1 ! (λ l₅. alloc1 ! (λ l₆. alloc1 ! (λ l₇.
+        alloc1 ! (λ l₈. alloc1 ! (λ l₉. alloc1 ! (λ l₁₀. alloc1 ! (λ l₁₁. alloc1 ! (λ l₁₂. alloc1 ! (λ l₁₃. alloc1 ! (λ l₁₄. alloc1 ! (λ
+        l₁₅. alloc1 ! (λ l₁₆. alloc1 ! (λ l₁₇. alloc1 ! (λ l₁₈. alloc1 ! (λ l₁₉. alloc1 ! (λ l₂₀. alloc1 ! (λ l₂₁. alloc0 ! $ params1 ! $
+        pass1 ! (init ! 40 refl (tt, (tt, (record { fits = gn .0 }, tt)))) $ pass0 ! $
+        assigns ! (rep ! rowPlaces (lit ! tt)) (from ! (stop !)) (init ! 38 refl zeros-typed) $
+        assigns ! (rep ! rowPlaces (lit ! tt)) (from ! (stop !)) (init ! 36 refl zeros-typed) $
+        assigns ! (rep ! rowPlaces (lit ! tt)) (from ! (stop !)) (init ! 34 refl zeros-typed) $
+        assigns ! (rep ! rowPlaces (lit ! tt)) (from ! (stop !)) (init ! 32 refl zeros-typed) $
+        assigns ! (of-opd ! (lit ! tt)) (from ! (stop !)) (init ! 30 refl (tt, record { fits = lit< tt })) $
         -- each column's cell becomes a row of elements
         owned ! A32 (Is A32) (array-makes 𝓤 H A W u32 (uint-makes 𝓤 H A W w32) rowPlaces) (replicate rowPlaces 0) _ zeros-are $ move !
-        (31 ∷ 0 ∷ []) $ use2 W (‵ (row u32 fullShare (replicate rowPlaces 0) l₂ 0))
+        (39 ∷ 0 ∷ []) $ use2 W (‵ (row u32 fullShare (replicate rowPlaces 0) l₂ 0))
         (cells-in 𝓤 H A W rowPlaces (replicate rowPlaces 0) l₂ zero-val) $
         owned ! A32 (Is A32) (array-makes 𝓤 H A W u32 (uint-makes 𝓤 H A W w32) rowPlaces) (replicate rowPlaces 0) _ zeros-are $ move !
-        (30 ∷ 0 ∷ []) $ use2 W (‵ (row u32 fullShare (replicate rowPlaces 0) l₃ 0))
+        (38 ∷ 0 ∷ []) $ use2 W (‵ (row u32 fullShare (replicate rowPlaces 0) l₃ 0))
         (cells-in 𝓤 H A W rowPlaces (replicate rowPlaces 0) l₃ zero-val) $
         owned ! A32 (Is A32) (array-makes 𝓤 H A W u32 (uint-makes 𝓤 H A W w32) rowPlaces) (replicate rowPlaces 0) _ zeros-are $ move !
-        (29 ∷ 0 ∷ []) $ use2 W (‵ (row u32 fullShare (replicate rowPlaces 0) l₄ 0))
+        (37 ∷ 0 ∷ []) $ use2 W (‵ (row u32 fullShare (replicate rowPlaces 0) l₄ 0))
         (cells-in 𝓤 H A W rowPlaces (replicate rowPlaces 0) l₄ zero-val) $
-        move ! (37 ∷ []) $ fsplit ! $ move ! (1 ∷ []) $ drop ! $ move ! (1 ∷ 2 ∷ 3 ∷ 37 ∷ 0 ∷ []) $
-        first ! $ blocks ! $ loops ! 𝓣 (Nearer ys) (Nearer-wf ys) (Inv l₀ l₁ l₂ l₃ l₄ l₅ l₆ l₇ l₈ l₉ l₁₀ l₁₁ l₁₂ l₁₃ l₁₄ l₁₅ l₁₆ l₁₇)
-        (turns l₀ l₁ l₂ l₃ l₄ l₅ l₆ l₇ l₈ l₉ l₁₀ l₁₁ l₁₂ l₁₃ l₁₄ l₁₅ l₁₆ l₁₇) (start ys)))))))))))))))))))
+        owned ! A32 (Is A32) (array-makes 𝓤 H A W u32 (uint-makes 𝓤 H A W w32) rowPlaces) (replicate rowPlaces 0) _ zeros-are $ move !
+        (36 ∷ 0 ∷ []) $ use2 W (‵ (row u32 fullShare (replicate rowPlaces 0) l₅ 0))
+        (cells-in 𝓤 H A W rowPlaces (replicate rowPlaces 0) l₅ zero-val) $
+        move ! (45 ∷ []) $ fsplit ! $ move ! (1 ∷ []) $ drop ! $ move ! (1 ∷ 2 ∷ 3 ∷ 4 ∷ 45 ∷ 0 ∷ []) $
+        first ! $ blocks ! $ loops ! 𝓣 (Nearer ys) (Nearer-wf ys) (Inv l₀ l₁ l₂ l₃ l₄ l₅ l₆ l₇ l₈ l₉ l₁₀ l₁₁ l₁₂ l₁₃ l₁₄ l₁₅ l₁₆ l₁₇ l₁₈
+        l₁₉ l₂₀ l₂₁)
+        (turns l₀ l₁ l₂ l₃ l₄ l₅ l₆ l₇ l₈ l₉ l₁₀ l₁₁ l₁₂ l₁₃ l₁₄ l₁₅ l₁₆ l₁₇ l₁₈ l₁₉ l₂₀ l₂₁) (start ys)))))))))))))))))))))))
 
 module _ {M : Type 1} (𝓤 : URA M) (H : Heap 𝓤) (A : Atoms 𝓤) (W : Given 𝓤 H A) (mem : Memory → SProp 𝓤) (run : Routine → Fun 𝓤) where
   f-walks : (𝓣 : Tables 𝓤 H) → Triple 𝓤 (𝓣 .C #rows·row-at) (D 𝓤 H A mem run) → Triple 𝓤 (𝓣 .C #rows·joined) (P 𝓤 H A mem run) →
