@@ -23,11 +23,12 @@ use Rattle.readers.proofs.Accepted.{accepted-day}
 use Rattle.readers.proofs.Readings.{Passes, given-passed}
 use Rattle.results.specs.Results.{written}
 use Rattle.outcomes.specs.Planning.{gives}
-use Rattle.running.specs.Words.{deskWords, releases, times, dues}
+use Rattle.running.specs.Words.{deskWords, releases, times, dues, pages, put}
 use Rattle.desk_open.specs.declared.OpenAnswer.the-variants as open-answer
-use Rattle.desk_open.specs.Opens.{put, openedWords, openCall}
+use Rattle.desk_open.specs.Opens.{openedWords, openCall}
 use Rattle.desk_open.proofs.Puts.{put-written}
-use Rattle.desk_open.proofs.Opened.{timeOf, withHead, withDues, withTimes, dues-room, times-room, releases-room}
+use Rattle.desk_open.proofs.Opened.{timeOf, pagesOfRow, withHead, withPages, withDues, withTimes, pages-room, dues-room}
+use Rattle.desk_open.proofs.Opened.{times-room, releases-room}
 
 -- By what the reader gives: a refused book; a run that is too short; a desk.
 module _ (opening : ℕ) (book ws : List ℕ) where
@@ -71,16 +72,21 @@ module _ (opening : ℕ) (day : Day) (few : length (day .rows) ≤ mostRows) (ws
       column-rows f column (day .rows) (omega arith) (λ i h g. same i h (omega arith)) in
       puts ∙ (λ x. put (before + 1) (rows x) (holds x)) ∙ put-written (before + 1) (map f (day .rows)) words room ws
 
-  pub day-put : (release minutes due : List ℕ) → length release ≡ rowPlaces → length minutes ≡ rowPlaces → length due ≡ rowPlaces →
+  pub day-put : (release minutes due paged : List ℕ) → length release ≡ rowPlaces → length minutes ≡ rowPlaces →
+      length due ≡ rowPlaces → length paged ≡ rowPlaces →
       ((i : ℕ) → 1 ≤ i → i ≤ n → columns release minutes due i ≡ jobs opening day i) →
-      (headed dued timed released : List ℕ) → headed ≡ written (put 0 (n ∷ day .free ∷ 0 ∷ opening ∷ []) (replicate deskWords 0)) ws →
-      dued ≡ put (dues + 1) (take n (drop 1 due)) headed → timed ≡ put (times + 1) (take n (drop 1 minutes)) dued →
+      ((i : ℕ) → 1 ≤ i → i ≤ n → at paged i ≡ row (day .rows) i .pages) →
+      (headed leaved dued timed released : List ℕ) → headed ≡ written (put 0 (n ∷ day .free ∷ 0 ∷ opening ∷ []) (replicate deskWords 0))
+      ws →
+      leaved ≡ put (pages + 1) (take n (drop 1 paged)) headed → dued ≡ put (dues + 1) (take n (drop 1 due)) leaved → timed ≡ put (times +
+      1) (take n (drop 1 minutes)) dued →
       released ≡ put (releases + 1) (take n (drop 1 release)) timed → released ≡ written (openedWords opening day) ws
   unfolding openedWords
-  day-put release minutes due p q r same headed dued timed released h d l e =
+  day-put release minutes due paged p q r s same of-rows headed leaved dued timed released h g d l e =
       let a = h ∙ ap (λ (m : ℕ). written (put 0 (m ∷ day .free ∷ 0 ∷ opening ∷ []) (replicate deskWords 0)) ws) (sym count) in
-      let b = column-put dueOf due r (λ i g k x. same i g k x .due) dues (withHead opening day) (dues-room opening day few)
-      headed dued a d in
+      let f = column-put pagesOfRow paged s of-rows pages (withHead opening day) (pages-room opening day few) headed leaved a g in
+      let b = column-put dueOf due r (λ i g k x. same i g k x .due) dues (withPages opening day) (dues-room opening day few)
+      leaved dued f d in
       let c = column-put (timeOf opening) minutes q (λ i g k x. same i g k x .length) times (withDues opening day)
       (times-room opening day few) dued timed b l in
       column-put releaseOf release p (λ i g k x. same i g k x .release) releases (withTimes opening day)
@@ -93,10 +99,10 @@ module _ (opening : ℕ) (book : List ℕ) (r : Given) (g : Gives opening (readB
   d = given-passed (readBy (orderingRule opening) book) r g e
 
   pub given-sizes : (r .count ≤ mostRows) × (length (r .columns .release) ≡ rowPlaces) ×
-      (length (r .columns .length) ≡ rowPlaces) × (length (r .columns .due) ≡ rowPlaces)
+      (length (r .columns .length) ≡ rowPlaces) × (length (r .columns .due) ≡ rowPlaces) × (length (r .columns .pages) ≡ rowPlaces)
   given-sizes =
       let few = accepted-day (orderingRule opening) book (d .day) (d .contents) .few-rows in
-      (omega (arith, d .count), d .columns .releases, d .columns .lengths, d .columns .dues)
+      (omega (arith, d .count), d .columns .releases, d .columns .lengths, d .columns .dues, d .pages .0)
 
   pub open-narrow : (ws : List ℕ) → length ws < deskWords → gives (open-answer.Refused byNarrow 0) ws ≡ openCall opening book ws
   open-narrow ws h = sym (open-short opening book ws (d .day) (d .contents) h)
@@ -104,10 +110,12 @@ module _ (opening : ℕ) (book : List ℕ) (r : Given) (g : Gives opening (readB
   pub open-done : (ws : List ℕ) → deskWords ≤ length ws → (new : List ℕ) →
       ((rows : List Row) → length rows ≡ r .count →
       ((i : ℕ) → 1 ≤ i → i ≤ r .count → jobsOf (r .columns) i ≡ withOpening opening (job rows i)) →
+      ((i : ℕ) → 1 ≤ i → i ≤ r .count → at (r .columns .pages) i ≡ row rows i .pages) →
       new ≡ written (openedWords opening (record { free = r .free; rows = rows })) ws) →
       gives (open-answer.Opened (r .count) (r .free)) new ≡ openCall opening book ws
   open-done ws wide new puts =
-      let words = puts (d .day .rows) (sym (d .count)) (λ i h k. d .columns .jobs i h (omega (arith, d .count))) ∙
+      let words = puts (d .day .rows) (sym (d .count)) (λ i h k. d .columns .jobs i h (omega (arith, d .count)))
+      (λ i h k. d .pages .1 i) ∙
       ap (λ (t : ℕ). written (openedWords opening (record { free = t; rows = d .day .rows })) ws) (d .free) in
       (λ x. gives (open-answer.Opened (d .count x) (d .free x)) (words x)) ∙
       sym (open-yes opening book ws (d .day) (d .contents) wide)

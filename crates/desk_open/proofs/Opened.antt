@@ -14,18 +14,18 @@ use Rattle.schedule.specs.Limits.{mostRows}
 use Rattle.schedule.specs.declared.Row.{Row}
 use Rattle.schedule.specs.Rows.{noRow, row, Day, jobs, countFrom}
 use Rattle.schedule.specs.Columns.{at}
-use Rattle.schedule.proofs.Numbers.{from-mem}
+use Rattle.schedule.proofs.Numbers.{from-mem, length-count}
 use Rattle.schedule.proofs.Filling.{mapped-at}
 use Rattle.rows.proofs.Laid.{releaseOf, dueOf}
 use Rattle.readers.specs.Reads.{orderingRule}
 use Rattle.readers.specs.Accepted.{AcceptedDay}
 use Rattle.results.specs.Results.{written}
-use Rattle.running.specs.Running.{noJob, rowsSeen, opened}
-use Rattle.running.specs.Words.{deskWords, countIn, minuteIn, worstIn, openingIn, releases, times, dues, marks}
-use Rattle.running.specs.Words.{jobAt, rowsIn, leftTo, worstHeld, running, IsDesk}
+use Rattle.running.specs.Running.{noJob, rowsSeen, pagesOf, opened}
+use Rattle.running.specs.Words.{deskWords, countIn, minuteIn, worstIn, openingIn, releases, times, dues, marks, pages, put}
+use Rattle.running.specs.Words.{jobAt, rowsIn, pagesHeld, leftTo, worstHeld, running, IsDesk, KeepsPages}
 use Rattle.running.proofs.Fits.{counted-at, rows-length}
-use Rattle.desk_open.specs.Opens.{put, openedWords}
-use Rattle.desk_open.proofs.Puts.{put-length, put-inside, put-before, put-after}
+use Rattle.running.proofs.Puts.{put-length, put-inside, put-before, put-after}
+use Rattle.desk_open.specs.Opens.{openedWords}
 
 -- A number of each row, put after a place: that of row i stands i places on.
 column-at : (f : Row → ℕ) (before : ℕ) (rows : List Row) (ws : List ℕ) →
@@ -41,6 +41,10 @@ column-at f before rows ws room (suc k) h g =
 abbrev pub timeOf : (opening : ℕ) → Row → ℕ
 timeOf opening r = opening + r .length
 
+-- The pages of a row.
+abbrev pub pagesOfRow : Row → ℕ
+pagesOfRow r = r .pages
+
 -- The words as they are put one column after another.
 abbrev headOf : (opening : ℕ) → Day → List ℕ
 headOf opening day = length (day .rows) ∷ day .free ∷ 0 ∷ opening ∷ []
@@ -48,8 +52,11 @@ headOf opening day = length (day .rows) ∷ day .free ∷ 0 ∷ opening ∷ []
 abbrev pub withHead : (opening : ℕ) → Day → List ℕ
 withHead opening day = put 0 (headOf opening day) (replicate deskWords 0)
 
+abbrev pub withPages : (opening : ℕ) → Day → List ℕ
+withPages opening day = put (pages + 1) (map pagesOfRow (day .rows)) (withHead opening day)
+
 abbrev pub withDues : (opening : ℕ) → Day → List ℕ
-withDues opening day = put (dues + 1) (map dueOf (day .rows)) (withHead opening day)
+withDues opening day = put (dues + 1) (map dueOf (day .rows)) (withPages opening day)
 
 abbrev pub withTimes : (opening : ℕ) → Day → List ℕ
 withTimes opening day = put (times + 1) (map (timeOf opening) (day .rows)) (withDues opening day)
@@ -71,11 +78,17 @@ module _ (opening : ℕ) (day : Day) (few : length (day .rows) ≤ mostRows) whe
   head-long : length (withHead opening day) ≡ deskWords
   head-long = put-length 0 (headOf opening day) blank head-room ∙ length-replicate {A = ℕ} deskWords 0
 
-  pub dues-room : dues + 1 + length (map dueOf rows) ≤ length (withHead opening day)
-  dues-room = omega (arith, head-long, sized dueOf)
+  pub pages-room : pages + 1 + length (map pagesOfRow rows) ≤ length (withHead opening day)
+  pages-room = omega (arith, head-long, sized pagesOfRow)
+
+  pages-long : length (withPages opening day) ≡ deskWords
+  pages-long = put-length (pages + 1) (map pagesOfRow rows) (withHead opening day) pages-room ∙ head-long
+
+  pub dues-room : dues + 1 + length (map dueOf rows) ≤ length (withPages opening day)
+  dues-room = omega (arith, pages-long, sized dueOf)
 
   dues-long : length (withDues opening day) ≡ deskWords
-  dues-long = put-length (dues + 1) (map dueOf rows) (withHead opening day) dues-room ∙ head-long
+  dues-long = put-length (dues + 1) (map dueOf rows) (withPages opening day) dues-room ∙ pages-long
 
   pub times-room : times + 1 + length (map (timeOf opening) rows) ≤ length (withDues opening day)
   times-room = omega (arith, dues-long, sized (timeOf opening))
@@ -96,7 +109,8 @@ module _ (opening : ℕ) (day : Day) (few : length (day .rows) ≤ mostRows) whe
   before-columns k h =
       put-before (releases + 1) (map releaseOf rows) (withTimes opening day) releases-room k h ∙
       put-before (times + 1) (map (timeOf opening) rows) (withDues opening day) times-room k (omega arith) ∙
-      put-before (dues + 1) (map dueOf rows) (withHead opening day) dues-room k (omega arith)
+      put-before (dues + 1) (map dueOf rows) (withPages opening day) dues-room k (omega arith) ∙
+      put-before (pages + 1) (map pagesOfRow rows) (withHead opening day) pages-room k (omega arith)
 
   past-releases : (k : ℕ) → times < k → at (openedWords opening day) k ≡ at (withTimes opening day) k
   unfolding openedWords
@@ -106,6 +120,10 @@ module _ (opening : ℕ) (day : Day) (few : length (day .rows) ≤ mostRows) whe
   past-times : (k : ℕ) → dues < k → at (openedWords opening day) k ≡ at (withDues opening day) k
   past-times k h = past-releases k (omega arith) ∙
       put-after (times + 1) (map (timeOf opening) rows) (withDues opening day) times-room k (omega (arith, sized (timeOf opening)))
+
+  past-dues : (k : ℕ) → marks < k → at (openedWords opening day) k ≡ at (withPages opening day) k
+  past-dues k h = past-times k (omega arith) ∙
+      put-after (dues + 1) (map dueOf rows) (withPages opening day) dues-room k (omega (arith, sized dueOf))
 
   blank-at : (k : ℕ) → 4 ≤ k → k < deskWords → at (withHead opening day) k ≡ 0
   blank-at k h g = put-after 0 (headOf opening day) blank head-room k (omega arith) ∙ getD-replicate {A = ℕ} deskWords k 0 0 g
@@ -127,14 +145,17 @@ module _ (opening : ℕ) (day : Day) (few : length (day .rows) ≤ mostRows) whe
   job-at i h g = λ x. record {
     release = column-at releaseOf releases rows (withTimes opening day) releases-room i h g x;
     length = (past-releases (times + i) (omega arith) ∙ column-at (timeOf opening) times rows (withDues opening day) times-room i h g) x;
-    due = (past-times (dues + i) (omega arith) ∙ column-at dueOf dues rows (withHead opening day) dues-room i h g) x;
+    due = (past-times (dues + i) (omega arith) ∙ column-at dueOf dues rows (withPages opening day) dues-room i h g) x;
   }
 
   mark-at : (i : ℕ) → 1 ≤ i → i ≤ length rows → at (openedWords opening day) (marks + i) ≡ 0
   mark-at i h g =
-      past-times (marks + i) (omega arith) ∙
-      put-after (dues + 1) (map dueOf rows) (withHead opening day) dues-room (marks + i) (omega (arith, sized dueOf)) ∙
+      past-dues (marks + i) (omega arith) ∙
+      put-before (pages + 1) (map pagesOfRow rows) (withHead opening day) pages-room (marks + i) (omega arith) ∙
       blank-at (marks + i) (omega arith) (omega arith)
+
+  page-at : (i : ℕ) → 1 ≤ i → i ≤ length rows → at (openedWords opening day) (pages + i) ≡ row rows i .pages
+  page-at i h g = past-dues (pages + i) (omega arith) ∙ column-at pagesOfRow pages rows (withHead opening day) pages-room i h g
 
 -- Every row is left where no mark stands.
 count-last : (k n : ℕ) → countFrom k (suc n) ≡ countFrom k n ++ ((k + n) ∷ [])
@@ -162,6 +183,18 @@ rows-are opening day ws count same =
     let e : 1 + i ≡ suc i = omega arith in
     counted-at (jobAt ws) noJob 1 (countIn ws) i l ∙ ap (jobAt ws) e ∙ same (suc i) (omega arith) (omega arith) ∙
     sym (mapped-at _ (day .rows) i noRow noJob (omega arith)))
+
+-- The pages that words hold, where each row number has its own.
+pages-are : (day : Day) (ws : List ℕ) → countIn ws ≡ length (day .rows) →
+    ((i : ℕ) → 1 ≤ i → i ≤ length (day .rows) → at ws (pages + i) ≡ row (day .rows) i .pages) → pagesHeld ws ≡ pagesOf day
+pages-are day ws count same =
+    let held : length (pagesHeld ws) ≡ countIn ws = length-map (countFrom 1 (countIn ws)) _ ∙ length-count 1 (countIn ws) in
+    ext-getD 0 (pagesHeld ws) (pagesOf day) (held ∙ count ∙ sym (length-map (day .rows) _))
+    (λ i h.
+    let l : i < countIn ws = omega (arith, held) in
+    let e : 1 + i ≡ suc i = omega arith in
+    counted-at _ 0 1 (countIn ws) i l ∙ ap (λ (k : ℕ). at ws (pages + k)) e ∙ same (suc i) (omega arith) (omega arith) ∙
+    sym (mapped-at _ (day .rows) i noRow 0 (omega arith)))
 
 -- The same in a run that holds them at its start.
 module _ (opening : ℕ) (day : Day) (b : List ℕ) (a : AcceptedDay (orderingRule opening) day) (wide : deskWords ≤ length b) where
@@ -209,6 +242,9 @@ module _ (opening : ℕ) (day : Day) (b : List ℕ) (a : AcceptedDay (orderingRu
   mark-is : (i : ℕ) → 1 ≤ i → i ≤ n → at new (marks + i) ≡ 0
   mark-is i h g = let f = a .few-rows in at-new (marks + i) (omega arith) ∙ mark-at opening day f i h g
 
+  page-is : (i : ℕ) → 1 ≤ i → i ≤ n → at new (pages + i) ≡ row (day .rows) i .pages
+  page-is i h g = let f = a .few-rows in at-new (pages + i) (omega arith) ∙ page-at opening day f i h g
+
   is-desk : IsDesk new
   is-desk = record {
     long = omega (arith, same-length);
@@ -232,10 +268,19 @@ module _ (opening : ℕ) (day : Day) (b : List ℕ) (a : AcceptedDay (orderingRu
   held = λ x. record {
     opening = opening-is x;
     rows = rows-are opening day new count-is job-is x;
+    pages = pages-are day new count-is page-is x;
     left = (ap (leftTo new) count-is ∙ all-left new n mark-is) x;
     minute = minute-is x;
     worst = worstHeld (worst-is x);
   }
 
-  pub opened-held : IsDesk new × (running new ≡ opened opening day) × (length new ≡ length b)
-  opened-held = (is-desk, held, same-length)
+  keeps : KeepsPages new
+  keeps = record {
+    desk = is-desk;
+    pages = λ i h g.
+        let inside : i ≤ n = omega (arith, count-is) in
+        omega (arith, page-is i h inside, a .pages i (from-mem i 1 n h (omega arith)));
+  }
+
+  pub opened-held : KeepsPages new × (running new ≡ opened opening day) × (length new ≡ length b)
+  opened-held = (keeps, held, same-length)

@@ -1,16 +1,16 @@
 // Opening a desk: the rows of an accepted book into a lent run of words.
 ghost use mathlib.Core.Path.{_≡_};
-ghost use Prim.Native.Nat.{ℕ, _+_, _≤_, _<_};
+ghost use Prim.Native.Nat.{ℕ, _≤_};
 ghost use mathlib.Core.List.{List, [], _∷_};
-ghost use lib.ListN.{length, take, drop, replicate};
+ghost use lib.ListN.{length, replicate};
 ghost use Rattle.schedule.specs.Limits.{mostRows, rowPlaces};
 ghost use Rattle.schedule.specs.declared.Row.{Row};
-ghost use Rattle.schedule.specs.Rows.{job, withOpening};
-ghost use Rattle.schedule.specs.Columns.{columns};
+ghost use Rattle.schedule.specs.Rows.{row, job, withOpening};
+ghost use Rattle.schedule.specs.Columns.{at, columns};
 ghost use Rattle.results.specs.Results.{written};
-ghost use Rattle.running.specs.Words.{deskWords};
+ghost use Rattle.running.specs.Words.{deskWords, put};
 ghost use Rattle.outcomes.specs.Planning.{gives};
-ghost use Rattle.desk_open.specs.Opens.{put, openedWords, openCall};
+ghost use Rattle.desk_open.specs.Opens.{openedWords, openCall};
 use readers::Terms;
 use refusals::Tested;
 use running::Layout;
@@ -38,20 +38,8 @@ fn put_head(desk: &mut [u32], count: u32, minute: u32, opening: u32)
     desk[Layout::OPENING] = opening;
 }
 
-// The first n rows of a column, into the column of the desk that begins after a place.
-fn put_column(desk: &mut [u32], before: usize, column: &[u32; Desk::PLACES], n: usize)
-    requires { ⌜ (n ≤ mostRows) × (before + mostRows < deskWords) × (deskWords ≤ length (now desk)) ×
-        (length (now column) ≡ rowPlaces) ⌝ }
-    ensures { λ _. ⌜ now (desk .exit) ≡ put (before + 1) (take n (drop 1 (now (column .entry)))) (now (desk .entry)) ⌝ }
-{
-    let mut i: usize = 0;
-    while i < n {
-        i += 1;
-        desk[before + i] = column[i];
-    }
-}
-
-// The words of a desk that a day opens: the head, then one column after another. The day has any rows of which planning sees these jobs.
+// The words of a desk that a day opens: the head, then one column after another. The day has any rows of which planning sees these jobs,
+// and which have these pages.
 fn put_day<'a>(
     desk: &mut [u32],
     opening: u32,
@@ -59,19 +47,23 @@ fn put_day<'a>(
     release: &'a [u32; Desk::PLACES],
     minutes: &'a [u32; Desk::PLACES],
     due: &'a [u32; Desk::PLACES],
+    pages: &'a [u32; Desk::PLACES],
     n: usize,
 )
     requires { ⌜ (n ≤ mostRows) × (deskWords ≤ length (now desk)) ×
-        (length (now release) ≡ rowPlaces) × (length (now minutes) ≡ rowPlaces) × (length (now due) ≡ rowPlaces) ⌝ }
+        (length (now release) ≡ rowPlaces) × (length (now minutes) ≡ rowPlaces) × (length (now due) ≡ rowPlaces) ×
+        (length (now pages) ≡ rowPlaces) ⌝ }
     ensures { λ _. ⌜ ((rows : List Row) → length rows ≡ n →
         ((i : ℕ) → 1 ≤ i → i ≤ n →
         columns (now (release .entry)) (now (minutes .entry)) (now (due .entry)) i ≡ withOpening opening (job rows i)) →
+        ((i : ℕ) → 1 ≤ i → i ≤ n → at (now (pages .entry)) i ≡ row rows i .pages) →
         now (desk .exit) ≡ written (openedWords opening (record { free = free; rows = rows })) (now (desk .entry))) ⌝ }
 {
     put_head(desk, n as u32, free, opening);
-    put_column(desk, Layout::DUES, due, n);
-    put_column(desk, Layout::TIMES, minutes, n);
-    put_column(desk, Layout::RELEASES, release, n);
+    running::put_column(desk, Layout::PAGES, pages, n);
+    running::put_column(desk, Layout::DUES, due, n);
+    running::put_column(desk, Layout::TIMES, minutes, n);
+    running::put_column(desk, Layout::RELEASES, release, n);
 }
 
 // Opens a desk with a book.
@@ -98,6 +90,7 @@ pub fn open(opening: u32, book: &[u32], desk: &mut [u32]) -> OpenAnswer
         &given.columns.release,
         &given.columns.length,
         &given.columns.due,
+        &given.columns.pages,
         count,
     );
     OpenAnswer::Opened(count, given.free)

@@ -11,14 +11,15 @@ use mathlib.Core.Logic.{_↔_, _⊎_, inl, inr}
 use lib.Dec.{T, leb, eqb, leb→le, le→leb}
 use lib.ListN.{length, getD, length-map}
 use borrow.Author.Tests.{eqb-true}
-use Rattle.schedule.specs.Limits.{mostRows, latestMinute, longestLength, latestDue, mostOpening, latestStand}
+use Rattle.schedule.specs.Limits.{mostRows, latestMinute, longestLength, latestDue, mostPages, mostOpening, latestStand}
 use Rattle.schedule.specs.Rows.{countFrom}
 use Rattle.schedule.specs.Columns.{at}
 use Rattle.schedule.proofs.Numbers.{length-count}
 use Rattle.schedule.proofs.Tests.{both, parts, or-cases, or-left, or-right, is-true, true-is}
-use Rattle.running.specs.Running.{between, noJob, jobIn}
-use Rattle.running.specs.Words.{deskWords, countIn, minuteIn, worstIn, openingIn, releases, times, dues, marks, jobAt, rowsIn}
-use Rattle.running.specs.Words.{columnFits, rowsFit, headFits, isDesk, IsDesk, leastRaised, mostRaised}
+use Rattle.running.specs.Running.{between, noJob, jobIn, pagesIn}
+use Rattle.running.specs.Words.{deskWords, countIn, minuteIn, worstIn, openingIn, releases, times, dues, marks, pages, jobAt, rowsIn}
+use Rattle.running.specs.Words.{pagesHeld, columnFits, rowsFit, headFits, isDesk, IsDesk, keepsPages, KeepsPages}
+use Rattle.running.specs.Words.{leastRaised, mostRaised}
 
 is-zero : (n : ℕ) → T (eqb n 0) → n ≡ 0
 is-zero n h = eqb-true n 0 (true-is _ h)
@@ -145,6 +146,15 @@ module _ (ws : List ℕ) where
   pub desk-says : (isDesk ws ≡ true) ↔ IsDesk ws
   desk-says = (says-desk, desk-says-so)
 
+  -- So does that of a desk with its pages.
+  pub keeps-says : (keepsPages ws ≡ true) ↔ KeepsPages ws
+  unfolding keepsPages
+  keeps-says = (
+    λ e. let p = parts (isDesk ws) _ (is-true _ e) in
+        record { desk = says-desk (true-is _ (p .0)); pages = fitting pages 1 mostPages ws n (p .1) },
+    λ k. true-is _ (both (isDesk ws) _ (is-true _ (desk-says-so (k .desk))) (fits-all pages 1 mostPages ws n (k .pages))),
+  )
+
 -- A head that fits counts no more than the most rows, and its opening is no more than the most.
 pub head-says : (ws : List ℕ) → headFits ws ≡ true → (countIn ws ≤ mostRows) × (openingIn ws ≤ mostOpening)
 unfolding headFits
@@ -170,3 +180,9 @@ row-held ws (suc i) h g =
 
 pub rows-length : (ws : List ℕ) → length (rowsIn ws) ≡ countIn ws
 rows-length ws = length-map (countFrom 1 (countIn ws)) (jobAt ws) ∙ length-count 1 (countIn ws)
+
+pub pages-held : (ws : List ℕ) (i : ℕ) → 1 ≤ i → i ≤ countIn ws → pagesIn (pagesHeld ws) i ≡ at ws (pages + i)
+pages-held ws zero h g = let z : ⊥ = omega arith in absurd z
+pages-held ws (suc i) h g =
+    let e : 1 + i ≡ suc i = omega arith in
+    counted-at (λ k. at ws (pages + k)) 0 1 (countIn ws) i (omega arith) ∙ ap (λ (k : ℕ). at ws (pages + k)) e

@@ -80,3 +80,9 @@ module _ (ws vs : List ℕ) (i : ℕ) (before : at ws (marks + i) ≡ 0) (after 
       step (no e) true t f =
           rw (same (suc n) (λ x. e (sym x)), t, f) (sym (without-behind i (leftTo ws n) (suc n) e))
       step (no e) false t f = rw (same (suc n) (λ x. e (sym x)), t) f
+
+-- Words with the same marks have the same rows left.
+pub left-same : (ws vs : List ℕ) → ((k : ℕ) → at vs (marks + k) ≡ at ws (marks + k)) → (n : ℕ) → leftTo vs n ≡ leftTo ws n
+unfolding leftTo
+left-same ws vs same zero = refl
+left-same ws vs same (suc n) = rw (same (suc n), left-same ws vs same n)

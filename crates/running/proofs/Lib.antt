@@ -1,4 +1,5 @@
 pub mod Fits
 pub mod Left
+pub mod Puts
 pub mod Starts
 pub mod Moves

@@ -22,8 +22,8 @@ use Rattle.schedule.proofs.Raised.{late-lowered, max-lowered}
 use Rattle.schedule.proofs.SignedWords.{raised-lowered}
 use Rattle.refusals.specs.declared.Tested.the-variants.{Passed}
 use Rattle.running.specs.Running.{Running, jobIn, startTests, worse, endAt, worstAt, moved}
-use Rattle.running.specs.Words.{deskWords, countIn, worstIn, releases, times, dues, marks, jobAt, rowsIn, leftTo, worstHeld}
-use Rattle.running.specs.Words.{running, IsDesk, leastRaised, mostRaised, movedWords}
+use Rattle.running.specs.Words.{deskWords, countIn, worstIn, releases, times, dues, marks, pages, jobAt, rowsIn, pagesHeld}
+use Rattle.running.specs.Words.{leftTo, worstHeld, running, IsDesk, KeepsPages, leastRaised, mostRaised, movedWords}
 use Rattle.running.proofs.Fits.{row-held, rows-length}
 use Rattle.running.proofs.Left.{left-stands, left-without}
 use Rattle.running.proofs.Starts.{MayStart, may-start}
@@ -170,6 +170,14 @@ module _ (ws : List ℕ) (desk : IsDesk ws) (i m : ℕ) (passed : startTests (ru
       map-same (jobAt new) (jobAt ws) (countFrom 1 (countIn ws))
       (λ k h. job-new k (omega (arith, count-range 1 (countIn ws) h, desk .count)))
 
+  page-new : (k : ℕ) → 1 ≤ k → at new (pages + k) ≡ at ws (pages + k)
+  page-new k l = moved-other ws i end w (pages + k) (λ e. omega arith) (λ e. omega arith) (λ e. omega (arith, start-fits))
+
+  pages-new : pagesHeld new ≡ pagesHeld ws
+  pages-new =
+      ap (λ (n : ℕ). map (λ k. at new (pages + k)) (countFrom 1 n)) count-new ∙
+      map-same _ _ (countFrom 1 (countIn ws)) (λ k h. page-new k (omega (arith, count-range 1 (countIn ws) h)))
+
   left-new : leftTo new (countIn new) ≡ without i (leftTo ws (countIn ws))
   left-new = ap (leftTo new) count-new ∙ left-without ws new i unmarked mark-new marks-new (countIn ws)
 
@@ -198,6 +206,20 @@ module _ (ws : List ℕ) (desk : IsDesk ws) (i m : ℕ) (passed : startTests (ru
   pub moved-held : IsDesk new × (running new ≡ moved d i m) × (length new ≡ length ws)
   moved-held = (
     new-desk,
-    λ x. record { opening = opening-new x; rows = rows-new x; left = left-new x; minute = minute-new x; worst = worst-some x },
+    λ x. record {
+      opening = opening-new x;
+      rows = rows-new x;
+      pages = pages-new x;
+      left = left-new x;
+      minute = minute-new x;
+      worst = worst-some x;
+    },
     moved-length ws i end w,
   )
+
+  -- And they keep the pages.
+  pub moved-keeps : KeepsPages ws → KeepsPages new
+  moved-keeps k = record {
+    desk = new-desk;
+    pages = λ j l h. omega (arith, page-new j l, k .pages j l (omega (arith, count-new)));
+  }

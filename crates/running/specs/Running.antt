@@ -1,4 +1,5 @@
--- The running desk: the opening and the rows it was opened with, the rows left, its minute, and the worst lateness so far. Its starts.
+-- The running desk: the opening and the rows it was opened with, with their pages, the rows left, its minute, and the worst lateness so
+-- far. Its starts.
 -- Rests on: the schedule's rows, the tests in sequence.
 use Prim.Native.Nat.{ℕ, _+_}
 use mathlib.Core.Bool.{Bool, not, _&&_, _||_}
@@ -9,6 +10,7 @@ use lib.ListN.{length, getD}
 use lib.IntN.{ℤ, subℕ}
 use Rattle.theory.specs.Jobs.{Job}
 use Rattle.schedule.specs.Limits.{latestStart}
+use Rattle.schedule.specs.declared.Row.{Row}
 use Rattle.schedule.specs.Rows.{jobOf, withOpening, Day, rowNumbers, stands, without}
 use Rattle.schedule.specs.Desk.{maxZ}
 use Rattle.refusals.specs.declared.Tested.{Tested}
@@ -16,22 +18,33 @@ use Rattle.refusals.specs.Refusals.{byUnlisted, byDone, byEarly}
 use Rattle.refusals.specs.Tests.{refuseIf, _then_}
 
 -- A running desk. It keeps the opening minutes that it was opened with; `rows` is what planning sees of each row of its book, so that a
--- row takes opening plus length; the rows done are those that are not left. The worst lateness so far is none until a row is done.
+-- row takes opening plus length; `pages` has the pages of each, from which another reader's lengths come; the rows done are those that are
+-- not left. The worst lateness so far is none until a row is done.
 pub record Running : Type 0 where
   pub opening : ℕ
   pub rows : List Job
+  pub pages : List ℕ
   pub left : List ℕ
   pub minute : ℕ
   pub worst : Option ℤ
 
--- What planning sees of the rows of a day, as a desk keeps them.
+-- What planning sees of the rows of a day, as a desk keeps them; and their pages.
 abbrev pub rowsSeen : (opening : ℕ) → Day → List Job
 rowsSeen opening day = map (λ r. withOpening opening (jobOf r)) (day .rows)
 
+abbrev pub pagesOf : Day → List ℕ
+pagesOf day = map (λ (r : Row). r .pages) (day .rows)
+
 -- A desk as it is opened: every row is left, at the free minute.
 abbrev pub opened : (opening : ℕ) → Day → Running
-opened opening day =
-    record { opening = opening; rows = rowsSeen opening day; left = rowNumbers day; minute = day .free; worst = none }
+opened opening day = record {
+  opening = opening;
+  rows = rowsSeen opening day;
+  pages = pagesOf day;
+  left = rowNumbers day;
+  minute = day .free;
+  worst = none;
+}
 
 -- The job of a row number from 1 on. (0 is no row, and so is a number past the last.)
 abbrev pub noJob : Job
@@ -39,6 +52,10 @@ noJob = record { release = 0; length = 0; due = 0 }
 
 abbrev pub jobIn : List Job → ℕ → Job
 jobIn rows i = getD (noJob ∷ rows) i noJob
+
+-- The pages of a row number.
+abbrev pub pagesIn : List ℕ → ℕ → ℕ
+pagesIn pages i = getD (0 ∷ pages) i 0
 
 -- A number lies between two others.
 abbrev pub between : (least most : ℕ) → ℕ → Bool
@@ -68,6 +85,7 @@ abbrev pub moved : Running → (i m : ℕ) → Running
 moved d i m = record {
   opening = d .opening;
   rows = d .rows;
+  pages = d .pages;
   left = without i (d .left);
   minute = endAt d i m;
   worst = some (worstAt d i m);

@@ -1,7 +1,7 @@
 -- The words of a lent desk, and the running desk that they hold. Words 0 to 7 are the head: the count of rows, the minute, the worst
 -- lateness so far raised by 2³¹ (0 for none), the opening minutes, the others kept for later use. Then five columns of 256 words: the
--- release of each row, its time at the desk (opening plus length), its due, whether it is done (1), and one that is kept for later use.
--- 1,288 words in all. Rests on: Running.
+-- release of each row, its time at the desk (opening plus length), its due, whether it is done (1), and its pages. 1,288 words in all.
+-- Rests on: Running.
 use Prim.Native.Nat.{ℕ, zero, suc, _+_, _≤_}
 use mathlib.Core.Bool.{Bool, true, cond, _&&_, _||_}
 use mathlib.Core.Path.{_≡_}
@@ -9,10 +9,10 @@ use mathlib.Core.List.{List, [], _∷_, _++_, map}
 use mathlib.Core.Logic.{_⊎_}
 use mathlib.Core.Option.{Option, none, some}
 use lib.Dec.{leb, eqb}
-use lib.ListN.{length, set}
+use lib.ListN.{length, take, drop, set}
 use lib.IntN.{ℤ}
 use Rattle.theory.specs.Jobs.{Job}
-use Rattle.schedule.specs.Limits.{mostRows, latestMinute, longestLength, latestDue, mostOpening, latestStand}
+use Rattle.schedule.specs.Limits.{mostRows, latestMinute, longestLength, latestDue, mostPages, mostOpening, latestStand}
 use Rattle.schedule.specs.Rows.{countFrom}
 use Rattle.schedule.specs.Columns.{at}
 use Rattle.schedule.specs.Offset.{lowered}
@@ -46,12 +46,19 @@ dues = 519
 abbrev pub marks : ℕ
 marks = 775
 
+abbrev pub pages : ℕ
+pages = 1031
+
 -- The job of row i, and the jobs of all rows.
 abbrev pub jobAt : List ℕ → ℕ → Job
 jobAt ws i = record { release = at ws (releases + i); length = at ws (times + i); due = at ws (dues + i) }
 
 abbrev pub rowsIn : List ℕ → List Job
 rowsIn ws = map (jobAt ws) (countFrom 1 (countIn ws))
+
+-- The pages of all rows.
+abbrev pub pagesHeld : List ℕ → List ℕ
+pagesHeld ws = map (λ i. at ws (pages + i)) (countFrom 1 (countIn ws))
 
 -- The rows left among the first n: those whose mark is 0.
 unfoldable pub leftTo : List ℕ → ℕ → List ℕ
@@ -68,6 +75,7 @@ abbrev pub running : List ℕ → Running
 running ws = record {
   opening = openingIn ws;
   rows = rowsIn ws;
+  pages = pagesHeld ws;
   left = leftTo ws (countIn ws);
   minute = minuteIn ws;
   worst = worstHeld (worstIn ws);
@@ -110,11 +118,24 @@ pub record IsDesk (ws : List ℕ) : Type 0 where
       (at ws (releases + i) ≤ latestMinute) × (openingIn ws + 1 ≤ at ws (times + i)) ×
       (at ws (times + i) ≤ openingIn ws + longestLength) × (at ws (dues + i) ≤ latestDue) × (at ws (marks + i) ≤ 1)
 
+-- Only a change of pace looks at the pages: there they are tested too.
+unfoldable pub keepsPages : List ℕ → Bool
+keepsPages ws = isDesk ws && columnFits pages 1 mostPages ws (countIn ws)
+
+-- The same as a statement; that the test says this is `keeps-says`, in proofs/Fits.antt.
+pub record KeepsPages (ws : List ℕ) : Type 0 where
+  pub desk : IsDesk ws
+  pub pages : (i : ℕ) → 1 ≤ i → i ≤ countIn ws → (1 ≤ at ws (pages + i)) × (at ws (pages + i) ≤ mostPages)
+
+-- A run of words with others from a place on.
+unfoldable pub put : (place : ℕ) → List ℕ → List ℕ → List ℕ
+put p xs ws = take p ws ++ xs ++ drop (p + length xs) ws
+
 -- The words after row i is started: the minute, the worst lateness so far, raised, and the row's mark.
 abbrev pub movedWords : List ℕ → (i end worst : ℕ) → List ℕ
 movedWords ws i end worst = set (set (set ws 1 end) 2 worst) (marks + i) 1
 
 -- Opens every definition of this file: name it on an `unfolding` line where all is to be computed.
 unfoldable pub openWords : Unit {0}
-unfolding leftTo columnFits rowsFit headFits isDesk
+unfolding leftTo columnFits rowsFit headFits isDesk keepsPages put
 openWords = tt

@@ -1,10 +1,10 @@
 // The words of a lent desk: where each number stands, and whether a run of words holds a desk.
 ghost use mathlib.Core.Path.{_≡_};
 ghost use Prim.Native.Nat.{_+_, _≤_, _<_};
-ghost use lib.ListN.{length};
-ghost use Rattle.schedule.specs.Limits.{mostRows, mostOpening};
+ghost use lib.ListN.{length, take, drop};
+ghost use Rattle.schedule.specs.Limits.{mostRows, rowPlaces, mostOpening};
 ghost use Rattle.running.specs.Running.{between};
-ghost use Rattle.running.specs.Words.{deskWords, openingIn, columnFits, headFits, rowsFit, isDesk};
+ghost use Rattle.running.specs.Words.{deskWords, openingIn, columnFits, headFits, rowsFit, isDesk, keepsPages, put};
 use schedule::Desk;
 
 // Where the numbers of a desk stand in its words. Row i has word i of each column, counted from 1: a column is named by the place before
@@ -32,6 +32,8 @@ impl Layout {
 
     // 1 where the row is done.
     pub const MARKS: usize = 775;
+
+    pub const PAGES: usize = 1_031;
 
     // The latest minute of a start, and the latest at which a desk stands.
     pub const LATEST_START: u32 = 20_000_000;
@@ -113,4 +115,33 @@ pub fn is_desk(desk: &[u32]) -> bool
         return rows_fit(desk, desk[Layout::COUNT] as usize);
     }
     false
+}
+
+// The words hold a desk, and the pages of each of its rows.
+pub fn keeps_pages(desk: &[u32]) -> bool
+    ensures { λ r. ⌜ r ≡ keepsPages (now (desk .entry)) ⌝ }
+{
+    if is_desk(desk) {
+        return column_fits(
+            desk,
+            Layout::PAGES,
+            1,
+            Desk::PAGES,
+            desk[Layout::COUNT] as usize,
+        );
+    }
+    false
+}
+
+// The first n rows of a column, into the column of the desk that begins after a place.
+pub fn put_column(desk: &mut [u32], before: usize, column: &[u32; Desk::PLACES], n: usize)
+    requires { ⌜ (n ≤ mostRows) × (before + mostRows < deskWords) × (deskWords ≤ length (now desk)) ×
+        (length (now column) ≡ rowPlaces) ⌝ }
+    ensures { λ _. ⌜ now (desk .exit) ≡ put (before + 1) (take n (drop 1 (now (column .entry)))) (now (desk .entry)) ⌝ }
+{
+    let mut i: usize = 0;
+    while i < n {
+        i += 1;
+        desk[before + i] = column[i];
+    }
 }

@@ -33,19 +33,19 @@ returns-2 c =
 
 put-day-requires : tie.Need-put-day-requires
 put-day-requires c κs =
-    let wide = c .before .before .before .before .before in
+    let wide = c .before .before .before .before .before .before in
     let told = wide .before in
     let r = told .before .before .read in
     let a = told .before .before .before .before .before .args in
     let sizes = given-sizes (a .opening) (now (a .book)) (r .result) (r .ensures) (told .enum-told .given .1) in
-    (sizes .0, wide .if1 .left, sizes .1, sizes .2, sizes .3)
+    (sizes .0, wide .if1 .left, sizes .1, sizes .2, sizes .3, sizes .4)
 
 same-length : tie.Need-same-length
 same-length c = search needs
 
 returns-3 : tie.Need-returns-3
 returns-3 c =
-    let wide = c .before .before .before .before .before .before .before .before in
+    let wide = c .before .before .before .before .before .before .before .before .before in
     let told = wide .before in
     let r = told .before .before .read in
     let a = told .before .before .before .before .before .args in

@@ -22,18 +22,24 @@ put-column-requires-2 c κs = search needs
 put-column-requires-3 : tie.Need-put-column-requires-3
 put-column-requires-3 c κs = search needs
 
+put-column-requires-4 : tie.Need-put-column-requires-4
+put-column-requires-4 c κs = search needs
+
 same-length : tie.Need-same-length
 same-length c = search needs
 
 returns : tie.Need-returns
 returns c =
-    let head = c .before .before .before .before .before .before .before .before .before .before .before .before .before .before in
+    let head = c .before .before .before .before .before .before .before .before .before .before .before .before .before .before .before
+    .before .before .before in
     let s = head .before .before .before in
     let a = s .args in
-    λ rows count same. day-put (a .opening) (record { free = a .free; rows = rows }) (omega arith) (a .desk .now) (a .n) count
-    (now (a .release)) (now (a .minutes)) (now (a .due)) (s .pre .2) (s .pre .3) (s .pre .4) same _ _ _ _ (head .put-head .ensures)
-    (c .before .before .before .before .before .before .before .before .before .before .put-column .ensures)
-    (c .before .before .before .before .before .before .put-column2 .ensures) (c .before .before .put-column3 .ensures)
+    λ rows count same paged. day-put (a .opening) (record { free = a .free; rows = rows }) (omega arith) (a .desk .now) (a .n) count
+    (now (a .release)) (now (a .minutes)) (now (a .due)) (now (a .pages)) (s .pre .2) (s .pre .3) (s .pre .4) (s .pre .5) same paged
+    _ _ _ _ _ (head .put-head .ensures)
+    (c .before .before .before .before .before .before .before .before .before .before .before .before .before .before .put-column .ensures)
+    (c .before .before .before .before .before .before .before .before .before .before .put-column2 .ensures)
+    (c .before .before .before .before .before .before .put-column3 .ensures) (c .before .before .put-column4 .ensures)
 
 pub put-day-spec : {M : Type 1} → statement M
 put-day-spec =
@@ -44,5 +50,6 @@ put-day-spec =
     put-column-requires
     put-column-requires-2
     put-column-requires-3
+    put-column-requires-4
     same-length
     returns)

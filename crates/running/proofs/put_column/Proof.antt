@@ -6,10 +6,10 @@ use native.Mathlib.Omega.{arith}
 use mathlib.Core.Path.{_≡_, refl, ap, _∙_}
 use mathlib.Core.List.{List}
 use lib.ListN.{length, take, drop, getD, set, length-set}
-use Rattle.desk_open.specs.Opens.{put}
-use Rattle.desk_open.proofs.Puts.{column-none, column-more}
-use Rattle.desk_open.proofs.put_column.Statement.{statement}
-use Rattle.desk_open.proofs.put_column.Tie as tie
+use Rattle.running.specs.Words.{put}
+use Rattle.running.proofs.Puts.{column-none, column-more}
+use Rattle.running.proofs.put_column.Statement.{statement}
+use Rattle.running.proofs.put_column.Tie as tie
 
 abbrev Inv-loop : tie.InvT-loop
 Inv-loop desk₀ before column n i₀ desk i = (i ≤ n) × (length desk ≡ length desk₀) ×
