@@ -21,7 +21,6 @@ use Rattle.schedule.proofs.Numbers.{length-count, count-range}
 use Rattle.schedule.proofs.Orders.{perm-all}
 use Rattle.schedule.proofs.Renumbered.{renumbered, agreeing, same-plans, pair-renumbered}
 use Rattle.refusals.specs.Refusals.{byUnlisted}
-use Rattle.rows.specs.InColumns.{jobsOf}
 use Rattle.results.specs.Results.{written, planWords}
 use Rattle.outcomes.specs.declared.ListAnswer.the-variants as list-answer
 use Rattle.outcomes.specs.declared.OrderAnswer.{OrderAnswer}
@@ -36,7 +35,7 @@ use Rattle.running.specs.Running.{jobIn}
 use Rattle.running.specs.Words.{countIn, minuteIn, rowsIn, leftTo, running, IsDesk}
 use Rattle.rows_left.specs.declared.Left.{Left}
 use Rattle.rows_left.specs.Left.{canPlan, plansHere}
-use Rattle.rows_left.specs.Gathered.{Gathered, Looked}
+use Rattle.rows_left.specs.Gathered.{jobsLeft, Gathered, Looked}
 use Rattle.rows_left.proofs.CanPlan.{can-plan-says, plans-here-says}
 use Rattle.rows_left.proofs.Gathering.{few-left, left-ranged, columns-within, left-matches, left-renumbers}
 use Rattle.desk_plans.specs.Plans.{planningLeft, deskListCall, deskPlanCall}
@@ -88,7 +87,7 @@ module _ (ws : List ℕ) (left : Left) (r : Ready ws left) where
     job = jobIn (rowsIn ws)
 
     abbrev job′ : ℕ → Job
-    job′ = jobsOf (left .columns)
+    job′ = jobsLeft left
 
     abbrev row : ℕ → ℕ
     row = at (left .rows)

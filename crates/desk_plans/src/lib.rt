@@ -48,9 +48,9 @@ pub fn list(desk: &[u32], result: &mut [u32]) -> ListAnswer
     }
     outcomes::list_in(
         Profile::Ordering,
-        &left.columns.release,
-        &left.columns.length,
-        &left.columns.due,
+        &left.release,
+        &left.minutes,
+        &left.due,
         left.count,
         desk[Layout::MINUTE],
         result,
@@ -72,9 +72,9 @@ pub fn order_of_plan(desk: &[u32], plan: u32, result: &mut [u32]) -> OrderAnswer
     let minute = desk[Layout::MINUTE];
     let answer = outcomes::plan_in(
         Profile::Ordering,
-        &left.columns.release,
-        &left.columns.length,
-        &left.columns.due,
+        &left.release,
+        &left.minutes,
+        &left.due,
         n,
         minute,
         plan,

@@ -5,10 +5,10 @@ use native.Mathlib.Omega.{arith}
 use mathlib.Core.Bool.{Bool}
 use mathlib.Core.Path.{_≡_, sym, ap, _∙_}
 use mathlib.Core.List.{List, map, List·Memᴰ}
-use lib.ListN.{length, getD, length-map, List·getD-map}
+use lib.ListN.{length, length-map}
 use lib.Seq.{ext-getD}
 use Rattle.schedule.specs.Limits.{mostRows, rowPlaces, latestMinute, longestTime, latestDue}
-use Rattle.schedule.specs.Rows.{jobOf, job, countFrom}
+use Rattle.schedule.specs.Rows.{job, countFrom}
 use Rattle.schedule.specs.Columns.{at, columns}
 use Rattle.schedule.specs.Filled.{Filled, from}
 use Rattle.schedule.proofs.Numbers.{length-count, count-range}
@@ -16,18 +16,15 @@ use Rattle.schedule.proofs.Orders.{count}
 use Rattle.schedule.proofs.Matches.{Matches}
 use Rattle.schedule.proofs.RankPicks.{Renumbers}
 use Rattle.schedule.proofs.Filling.{counted-from-one}
-use Rattle.rows.specs.InColumns.{jobsOf, Within}
-use Rattle.running.specs.Running.{Running, jobIn}
+use Rattle.rows.specs.InColumns.{Within}
+use Rattle.running.specs.Running.{jobIn}
 use Rattle.running.specs.Words.{countIn, minuteIn, releases, times, dues, rowsIn, leftTo, running, IsDesk}
 use Rattle.running.proofs.Fits.{counted-at, row-held}
 use Rattle.rows_left.specs.declared.Left.{Left}
-use Rattle.rows_left.specs.Left.{plainLeft, plainRow, canPlan}
-use Rattle.rows_left.specs.Gathered.{leftAt, wordLeft, FitTested, Gathered}
+use Rattle.rows_left.specs.Left.{plainLeft, canPlan}
+use Rattle.rows_left.specs.Gathered.{leftAt, wordLeft, FitTested, jobsLeft, Gathered}
 use Rattle.rows_left.proofs.LeftRows.{left-rising, left-mem}
-
--- The plain rows of a desk have the jobs of its rows left.
-pub plain-job : (d : Running) (k : ℕ) → job (plainLeft d) (suc k) ≡ jobIn (d .rows) (getD (d .left) k 0)
-plain-job d k = ap jobOf (List·getD-map (λ (i : ℕ). plainRow (jobIn (d .rows) i)) (d .left) k 0)
+use Rattle.rows_left.proofs.Plain.{plain-size, plain-job}
 
 -- The rows left are no more than the most rows of a desk.
 pub few-left : {ws : List ℕ} {n : ℕ} → IsDesk ws → n ≡ length (leftTo ws (countIn ws)) → n ≤ mostRows
@@ -45,7 +42,7 @@ left-ranged {ws} desk i m =
 module _ (ws : List ℕ) {n : ℕ} {rows : List ℕ} (counted : n ≡ length (leftTo ws (countIn ws)))
     (numbered : Filled rowPlaces (from 1) (leftAt ws) n rows) where
   -- The number at each place is that of a row of the desk.
-  row-range : (k : ℕ) → k < n → (1 ≤ at rows (k + 1)) × (at rows (k + 1) ≤ countIn ws)
+  pub row-range : (k : ℕ) → k < n → (1 ≤ at rows (k + 1)) × (at rows (k + 1) ≤ countIn ws)
   row-range k h = omega (arith, numbered .filled k h, left-rising ws (countIn ws) .range k (omega arith))
 
   module _ (desk : IsDesk ws) where
@@ -53,7 +50,7 @@ module _ (ws : List ℕ) {n : ℕ} {rows : List ℕ} (counted : n ≡ length (le
     rows-small = numbered .within mostRows (λ k h. omega (arith, left-rising ws (countIn ws) .range k (omega arith), desk .count))
 
     -- What no row of the desk exceeds in a column, no place does.
-    column-within : (before bound : ℕ) → ((i : ℕ) → 1 ≤ i → i ≤ countIn ws → at ws (before + i) ≤ bound) → {column : List ℕ} →
+    pub column-within : (before bound : ℕ) → ((i : ℕ) → 1 ≤ i → i ≤ countIn ws → at ws (before + i) ≤ bound) → {column : List ℕ} →
         Filled rowPlaces (from 1) (wordLeft ws before rows) n column → (p : ℕ) → at column p ≤ bound
     column-within before bound h f = f .within bound (λ k g. let r = row-range k g in h (at rows (k + 1)) (r .0) (r .1))
 
@@ -71,31 +68,33 @@ module _ (ws : List ℕ) (left : Left) (g : Gathered ws left) where
   row = at (left .rows)
 
   -- Each number from 1 on has the job of its row.
-  job-at : (k : ℕ) → k < left .count → jobsOf (left .columns) (k + 1) ≡ jobIn (rowsIn ws) (row (k + 1))
+  job-at : (k : ℕ) → k < left .count → jobsLeft left (k + 1) ≡ jobIn (rowsIn ws) (row (k + 1))
   job-at k h =
       let r = row-range ws (g .counted) (g .numbered) k h in
       (λ x. record { release = g .released .filled k h x; length = g .timed .filled k h x; due = g .dated .filled k h x }) ∙
       sym (row-held ws (row (k + 1)) (r .0) (r .1))
 
-  same-jobs : (k : ℕ) → 1 ≤ k → k ≤ left .count → jobsOf (left .columns) k ≡ jobIn (rowsIn ws) (row k)
-  same-jobs = counted-from-one (left .count) (λ (k : ℕ). jobsOf (left .columns) k ≡ jobIn (rowsIn ws) (row k)) job-at
+  same-jobs : (k : ℕ) → 1 ≤ k → k ≤ left .count → jobsLeft left k ≡ jobIn (rowsIn ws) (row k)
+  same-jobs = counted-from-one (left .count) (λ (k : ℕ). jobsLeft left k ≡ jobIn (rowsIn ws) (row k)) job-at
 
   -- The plain rows are so many, and have the same jobs.
-  plain-size : length (plainLeft (running ws)) ≡ left .count
-  plain-size = length-map (leftTo ws (countIn ws)) (λ (i : ℕ). plainRow (jobIn (rowsIn ws) i)) ∙ sym (g .counted)
+  plain-count : length (plainLeft (running ws)) ≡ left .count
+  plain-count = plain-size (jobIn (rowsIn ws)) (leftTo ws (countIn ws)) ∙ sym (g .counted)
 
-  plain-at : (k : ℕ) → k < left .count → jobsOf (left .columns) (k + 1) ≡ job (plainLeft (running ws)) (k + 1)
+  plain-at : (k : ℕ) → k < left .count → jobsLeft left (k + 1) ≡ job (plainLeft (running ws)) (k + 1)
   plain-at k h =
       let e : suc k ≡ k + 1 = omega arith in
-      job-at k h ∙ ap (jobIn (rowsIn ws)) (g .numbered .filled k h) ∙ sym (plain-job (running ws) k) ∙ ap (job (plainLeft (running ws))) e
+      let inside : k < length (leftTo ws (countIn ws)) = omega (arith, g .counted) in
+      job-at k h ∙ ap (jobIn (rowsIn ws)) (g .numbered .filled k h) ∙ sym (plain-job (jobIn (rowsIn ws)) (leftTo ws (countIn ws)) k
+      inside) ∙ ap (job (plainLeft (running ws))) e
 
-  plain-jobs : (k : ℕ) → 1 ≤ k → k ≤ left .count → jobsOf (left .columns) k ≡ job (plainLeft (running ws)) k
-  plain-jobs = counted-from-one (left .count) (λ (k : ℕ). jobsOf (left .columns) k ≡ job (plainLeft (running ws)) k) plain-at
+  plain-jobs : (k : ℕ) → 1 ≤ k → k ≤ left .count → jobsLeft left k ≡ job (plainLeft (running ws)) k
+  plain-jobs = counted-from-one (left .count) (λ (k : ℕ). jobsLeft left k ≡ job (plainLeft (running ws)) k) plain-at
 
   -- What is tested of the columns is tested of the rows left.
-  pub can-plan-told : (b : Bool) → FitTested (minuteIn ws) (jobsOf (left .columns)) (left .count) b → b ≡ canPlan (running ws)
+  pub can-plan-told : (b : Bool) → FitTested (minuteIn ws) (jobsLeft left) (left .count) b → b ≡ canPlan (running ws)
   unfolding canPlan
-  can-plan-told b t = t (plainLeft (running ws)) plain-size plain-jobs
+  can-plan-told b t = t (plainLeft (running ws)) plain-count plain-jobs
 
   -- The rows left are those of the numbers 1 to n, in their order.
   left-mapped : leftTo ws (countIn ws) ≡ map row (countFrom 1 (left .count))
@@ -121,7 +120,7 @@ module _ (ws : List ℕ) (left : Left) (g : Gathered ws left) where
     g .numbered .filled l f,
   )
 
-  pub left-renumbers : Renumbers (left .count) (jobIn (rowsIn ws)) (jobsOf (left .columns)) row
+  pub left-renumbers : Renumbers (left .count) (jobIn (rowsIn ws)) (jobsLeft left) row
   left-renumbers = record {
     ties = λ k l h f e d b. ordered k l h f e;
     same = same-jobs;

@@ -1,3 +1,4 @@
 pub mod LeftRows
+pub mod Plain
 pub mod Gathering
 pub mod CanPlan

@@ -9,7 +9,7 @@ use Rattle.theory.specs.Jobs.{Job}
 use Rattle.schedule.specs.Limits.{rowPlaces}
 use Rattle.schedule.specs.declared.Row.{Row}
 use Rattle.schedule.specs.Rows.{job}
-use Rattle.schedule.specs.Columns.{at}
+use Rattle.schedule.specs.Columns.{at, columns}
 use Rattle.schedule.specs.Filled.{Filled, from}
 use Rattle.running.specs.Words.{countIn, releases, times, dues, leftTo}
 use Rattle.rows_left.specs.declared.Left.{Left}
@@ -27,13 +27,17 @@ abbrev pub FitTested : (minute : ℕ) → (ℕ → Job) → (count : ℕ) → Bo
 FitTested minute jobs count b = (rows : List Row) → length rows ≡ count → ((i : ℕ) → 1 ≤ i → i ≤ count → jobs i ≡ job rows i) →
     b ≡ fitFrom minute rows
 
+-- What planning sees of the rows left, by their places.
+abbrev pub jobsLeft : Left → ℕ → Job
+jobsLeft left = columns (left .release) (left .minutes) (left .due)
+
 -- Place k from 1 on has the k-th of the rows left, in `rows` its number and in the columns what the desk has of it.
 pub record Gathered (ws : List ℕ) (left : Left) : Type 0 where
   pub counted : left .count ≡ length (leftTo ws (countIn ws))
   pub numbered : Filled rowPlaces (from 1) (leftAt ws) (left .count) (left .rows)
-  pub released : Filled rowPlaces (from 1) (wordLeft ws releases (left .rows)) (left .count) (left .columns .release)
-  pub timed : Filled rowPlaces (from 1) (wordLeft ws times (left .rows)) (left .count) (left .columns .length)
-  pub dated : Filled rowPlaces (from 1) (wordLeft ws dues (left .rows)) (left .count) (left .columns .due)
+  pub released : Filled rowPlaces (from 1) (wordLeft ws releases (left .rows)) (left .count) (left .release)
+  pub timed : Filled rowPlaces (from 1) (wordLeft ws times (left .rows)) (left .count) (left .minutes)
+  pub dated : Filled rowPlaces (from 1) (wordLeft ws dues (left .rows)) (left .count) (left .due)
 
 -- The whole answer of a look at lent words: whether the rows left can be planned, and if so, these rows.
 pub record Looked (ws : List ℕ) (left : Left) : Type 0 where

@@ -17,12 +17,15 @@ use Rattle.readers.specs.Rules.{ruleTests}
 use Rattle.running.specs.Running.{Running, jobIn}
 use Rattle.running.specs.Words.{running, isDesk}
 
--- A row of which nothing is known but its job; and the rows left, so.
+-- A row of which nothing is known but its job; rows of these numbers, so; and the rows left, as they are.
 abbrev pub plainRow : Job → Row
-plainRow j = record { number = 0; release = j .release; length = j .length; due = j .due; class = None }
+plainRow j = record { number = 0; release = j .release; length = j .length; due = j .due; class = None; pages = 0 }
+
+abbrev pub plainRows : (ℕ → Job) → List ℕ → List Row
+plainRows job left = map (λ i. plainRow (job i)) left
 
 abbrev pub plainLeft : Running → List Row
-plainLeft d = map (λ i. plainRow (jobIn (d .rows) i)) (d .left)
+plainLeft d = plainRows (jobIn (d .rows)) (d .left)
 
 abbrev pub hasPassed : Tested → Bool
 hasPassed Passed = true

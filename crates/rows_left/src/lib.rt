@@ -11,7 +11,6 @@ ghost use Rattle.running.specs.Words.{deskWords, countIn, leftTo, running, isDe
 ghost use Rattle.rows_left.specs.Left.{canPlan};
 ghost use Rattle.rows_left.specs.Gathered.{leftAt, wordLeft, FitTested, Gathered, Looked};
 use refusals::Tested;
-use rows::Columns;
 use running::Layout;
 use schedule::Desk;
 use schedule::Profile;
@@ -26,7 +25,9 @@ pub struct Left {
     pub ready: bool,
     pub count: usize,
     pub rows: [u32; Desk::PLACES],
-    pub columns: Columns,
+    pub release: [u32; Desk::PLACES],
+    pub minutes: [u32; Desk::PLACES],
+    pub due: [u32; Desk::PLACES],
 }
 
 // Row i is noted after the first m rows left, where it is left; how many are noted then.
@@ -43,7 +44,7 @@ fn note(rows: &mut [u32; Desk::PLACES], m: usize, i: usize, left: bool) -> usize
 }
 
 // The numbers of the rows left, from place 1 on; how many they are.
-fn numbers_left(desk: &[u32], rows: &mut [u32; Desk::PLACES]) -> usize
+pub fn numbers_left(desk: &[u32], rows: &mut [u32; Desk::PLACES]) -> usize
     requires { ⌜ (deskWords ≤ length (now desk)) × (countIn (now desk) ≤ mostRows) × (now rows ≡ replicate rowPlaces 0) ⌝ }
     ensures { λ r. ⌜ (r ≡ length (leftTo (now (desk .entry)) (countIn (now (desk .entry)))))
         × Filled rowPlaces (from 1) (leftAt (now (desk .entry))) r (now (rows .exit)) ⌝ }
@@ -59,14 +60,14 @@ fn numbers_left(desk: &[u32], rows: &mut [u32; Desk::PLACES]) -> usize
 }
 
 // A row as a place in a column.
-fn place_of(x: u32) -> usize
+pub fn place_of(x: u32) -> usize
     ensures { λ r. ⌜ r ≡ x ⌝ }
 {
     x as usize
 }
 
 // What the rows of these numbers have in a column of the desk, from place 1 on.
-fn column_left(
+pub fn column_left(
     desk: &[u32],
     before: usize,
     rows: &[u32; Desk::PLACES],
@@ -119,16 +120,13 @@ fn gather(desk: &[u32]) -> Left
     column_left(desk, Layout::TIMES, &rows, count, &mut minutes);
     column_left(desk, Layout::DUES, &rows, count, &mut due);
     let ready = can_plan(desk[Layout::MINUTE], &release, &minutes, &due, count);
-    let columns = Columns {
-        release: release,
-        length: minutes,
-        due: due,
-    };
     Left {
         ready: ready,
         count: count,
         rows: rows,
-        columns: columns,
+        release: release,
+        minutes: minutes,
+        due: due,
     }
 }
 
@@ -140,15 +138,12 @@ pub fn look(desk: &[u32]) -> Left
         return gather(desk);
     }
     let none: [u32; Desk::PLACES] = [0; Desk::PLACES];
-    let columns = Columns {
-        release: none,
-        length: none,
-        due: none,
-    };
     Left {
         ready: false,
         count: 0,
         rows: none,
-        columns: columns,
+        release: none,
+        minutes: none,
+        due: none,
     }
 }
