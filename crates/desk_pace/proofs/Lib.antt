@@ -1,0 +1,4 @@
+pub mod LeftTests
+pub mod PaceLaws
+pub mod Repaced
+pub mod Agreed

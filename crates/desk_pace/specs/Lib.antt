@@ -1,0 +1,2 @@
+pub mod Paces
+pub mod Gathered
