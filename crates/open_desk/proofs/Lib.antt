@@ -1,5 +1,6 @@
 pub mod Standing
 pub mod Starts
+pub mod Paces
 pub mod Memory
 pub mod Histories
 pub mod Refused

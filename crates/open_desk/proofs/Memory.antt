@@ -5,7 +5,7 @@ use native.Mathlib.Omega.{arith}
 use native.Mathlib.Decide.{decLe}
 use mathlib.Core.Bool.{Bool, true, false}
 use mathlib.Core.Path.{_≡_, refl, sym, ap, _∙_, subst}
-use mathlib.Core.List.{List, _++_}
+use mathlib.Core.List.{List, _++_, List·Memᴰ}
 use mathlib.Core.Logic.{_⊎_, inl, inr}
 use lib.ListN.{length, drop, getD}
 use lib.Seq.{drop-append-seam}
@@ -26,16 +26,22 @@ use Rattle.promises.specs.Table.{BookRefused, by-word, disorder, crossed, Turne
 use Rattle.promises.proofs.Numbers.{wrong-numbered}
 use Rattle.promises.proofs.Refused.{contents-turned}
 use Rattle.running.specs.Running.{Running, endAt, worstAt}
-use Rattle.running.specs.Words.{deskWords, running, marks, isDesk, movedWords}
+use Rattle.running.specs.Words.{deskWords, countIn, running, times, marks, isDesk, keepsPages, movedWords}
+use Rattle.running.proofs.Fits.{keeps-says}
 use Rattle.running.proofs.Moves.{moved-length, moved-other}
 use Rattle.desk_open.specs.Opens.{openedWords}
 use Rattle.desk_open.proofs.Opened.{opened-held, opened-long}
 use Rattle.desk_open.proofs.OpenCall.{open-no, open-short, open-yes}
 use Rattle.desk_start.proofs.StartLaws.{start-none, start-no, start-yes}
-use Rattle.open_desk.specs.Answers.{saidOpen, saidStart}
-use Rattle.open_desk.specs.History.{deskOpen, deskStart}
-use Rattle.open_desk.specs.Table.{StartTurned, unlisted, done, early}
+use Rattle.rows_left.proofs.LeftRows.{left-rising}
+use Rattle.desk_pace.specs.Paces.{repacedWords}
+use Rattle.desk_pace.proofs.PaceLaws.{pace-none, pace-no, pace-yes}
+use Rattle.desk_pace.proofs.Repaced.{repaced-length, writes}
+use Rattle.open_desk.specs.Answers.{saidOpen, saidStart, saidPace}
+use Rattle.open_desk.specs.History.{deskOpen, deskStart, deskPace}
+use Rattle.open_desk.specs.Table.{StartTurned, unlisted, done, early, PaceTurned, range, disorder}
 use Rattle.open_desk.proofs.Starts.{Found, refuses, passes, found}
+use Rattle.open_desk.proofs.Paces as paces
 
 -- A call that is refused, and one that is not.
 lent-no : {Numbers : ℕ → Type 0} (n p : ℕ) (lent : List ℕ) → Numbers n → Lent Numbers lent (gives (saidNo n p) lent)
@@ -135,3 +141,30 @@ module _ (ws : List ℕ) (i m : ℕ) where
           let worst = raised (worstAt (running ws) i m) in
           subst Writes (sym (ap (told saidStart) (start-yes ws i m e t)))
           (lent-yes _ ws (movedWords ws i end worst) refl (moved-length ws i end worst), moved-other ws i end worst)
+
+-- # A change of pace
+abbrev PaceNumbers : ℕ → Type 0
+PaceNumbers n = (n ≡ 3) ⊎ (n ≡ 8)
+
+pace-numbers : {d : Running} {pace : ℕ} (n p : ℕ) → PaceTurned d pace n p → PaceNumbers n
+pace-numbers _ _ (range h) = inl refl
+pace-numbers _ _ (disorder l m k e) = inr refl
+
+module _ (ws : List ℕ) (pace : ℕ) where
+  -- A change writes the times of the rows left, if any.
+  abbrev PaceWrites : Outcome Said → Type 0
+  PaceWrites o = Lent PaceNumbers ws o ×
+      ((place : ℕ) → ((i : ℕ) → List·Memᴰ i (running ws .left) → ¬ (place ≡ times + i)) → getD (o .buffer) place 0 ≡ getD ws place 0)
+
+  pub pace-writes : PaceWrites (deskPace ws pace)
+  pace-writes = step (keepsPages ws) refl (paces.found (running ws) pace (countIn ws) (left-rising ws (countIn ws)))
+    where
+      step : (b : Bool) → keepsPages ws ≡ b → paces.Found (running ws) pace → PaceWrites (deskPace ws pace)
+      step false e f =
+          subst PaceWrites (sym (ap (told saidPace) (pace-none ws pace e))) (lent-no byRange 0 ws (inl refl), λ place f. refl)
+      step true e (paces.refuses n p l t u only) =
+          subst PaceWrites (sym (ap (told saidPace) (pace-no ws pace e n p t))) (lent-no n p ws (pace-numbers n p u), λ place f. refl)
+      step true e (paces.passes t within r never) =
+          let keeps = keeps-says ws .0 e in
+          subst PaceWrites (sym (ap (told saidPace) (pace-yes ws pace e t)))
+          (lent-yes _ ws (repacedWords ws pace) refl (repaced-length ws keeps pace), writes ws keeps pace)

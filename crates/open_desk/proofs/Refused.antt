@@ -23,8 +23,8 @@ use Rattle.promises.specs.Vocabulary.{Refuses}
 use Rattle.promises.specs.Table.{Turned, ListTurned, PlanTurned}
 use Rattle.promises.specs.Table as table
 use Rattle.promises.proofs.Refused.{says-no, says-yes, turned, list-turned, plan-turned}
-use Rattle.running.specs.Words.{deskWords, running, isDesk, IsDesk}
-use Rattle.running.proofs.Fits.{desk-says}
+use Rattle.running.specs.Words.{deskWords, countIn, running, isDesk, IsDesk, keepsPages, KeepsPages}
+use Rattle.running.proofs.Fits.{desk-says, keeps-says}
 use Rattle.rows_left.specs.Left.{plansHere}
 use Rattle.rows_left.proofs.CanPlan.{can-plan-says, plans-here-says}
 use Rattle.rows_left.proofs.Gathering.{left-ranged}
@@ -32,11 +32,14 @@ use Rattle.desk_open.proofs.OpenCall.{open-no, open-short, open-yes}
 use Rattle.desk_plans.specs.Plans.{planningLeft}
 use Rattle.desk_plans.proofs.Sound.{sound-left}
 use Rattle.desk_plans.proofs.PlanCalls.{list-away, list-here, plan-away, plan-here, no-plans, none-numbered}
-use Rattle.open_desk.specs.Answers.{saidOpen, saidStart}
-use Rattle.open_desk.specs.History.{deskOpen, deskStart, deskList, deskPlan}
-use Rattle.open_desk.specs.Table.{OpenTurned, narrow, StartTurned, CanPlan, DeskTurned, no-desk, by-call}
-use Rattle.open_desk.proofs.Starts.{Found, refuses, passes, found}
 use Rattle.desk_start.proofs.StartLaws.{start-none, start-no, start-yes}
+use Rattle.rows_left.proofs.LeftRows.{left-rising}
+use Rattle.desk_pace.proofs.PaceLaws.{pace-none, pace-no, pace-yes}
+use Rattle.open_desk.specs.Answers.{saidOpen, saidStart, saidPace}
+use Rattle.open_desk.specs.History.{deskOpen, deskStart, deskPace, deskList, deskPlan}
+use Rattle.open_desk.specs.Table.{OpenTurned, narrow, StartTurned, PaceTurned, CanPlan, DeskTurned, no-desk, by-call}
+use Rattle.open_desk.proofs.Starts.{Found, refuses, passes, found}
+use Rattle.open_desk.proofs.Paces as paces
 
 -- # Opening a desk
 module _ (opening : ℕ) (book ws : List ℕ) where
@@ -102,6 +105,28 @@ module _ (ws : List ℕ) (i m : ℕ) where
       step false e = not-here (deskStart ws i m .answer) (IsDesk ws) (StartTurned (running ws) i m)
           (λ d. false-is-true (sym e ∙ desk-says ws .1 d)) (ap (λ o. saidStart (o .answer)) (start-none ws i m e))
       step true e = is-here (deskStart ws i m .answer) (IsDesk ws) (StartTurned (running ws) i m) (desk-says ws .0 e) (start-own e)
+
+-- # A change of pace
+module _ (ws : List ℕ) (pace : ℕ) where
+  pub pace-own : keepsPages ws ≡ true → (n p : ℕ) → Refuses (deskPace ws pace .answer) n p ↔ PaceTurned (running ws) pace n p
+  pace-own e = step (paces.found (running ws) pace (countIn ws) (left-rising ws (countIn ws)))
+    where
+      step : paces.Found (running ws) pace → (n p : ℕ) → Refuses (deskPace ws pace .answer) n p ↔ PaceTurned (running ws) pace n p
+      step (paces.refuses n p l t u only) =
+          says-no (deskPace ws pace .answer) (PaceTurned (running ws) pace) n p l
+          (ap (λ o. saidPace (o .answer)) (pace-no ws pace e n p t)) u only
+      step (paces.passes t within r never) =
+          says-yes (deskPace ws pace .answer) (PaceTurned (running ws) pace)
+          (ap (λ o. saidPace (o .answer) .number) (pace-yes ws pace e t)) never
+
+  pub pace-turned : (n p : ℕ) → Refuses (deskPace ws pace .answer) n p ↔ DeskTurned (KeepsPages ws) (PaceTurned (running ws) pace) n p
+  pace-turned = step (keepsPages ws) refl
+    where
+      step : (b : Bool) → keepsPages ws ≡ b → (n p : ℕ) →
+          Refuses (deskPace ws pace .answer) n p ↔ DeskTurned (KeepsPages ws) (PaceTurned (running ws) pace) n p
+      step false e = not-here (deskPace ws pace .answer) (KeepsPages ws) (PaceTurned (running ws) pace)
+          (λ d. false-is-true (sym e ∙ keeps-says ws .1 d)) (ap (λ o. saidPace (o .answer)) (pace-none ws pace e))
+      step true e = is-here (deskPace ws pace .answer) (KeepsPages ws) (PaceTurned (running ws) pace) (keeps-says ws .0 e) (pace-own e)
 
 -- # The list and an order
 module _ (ws : List ℕ) where

@@ -4,10 +4,14 @@ use Prim.Native.Nat.{ℕ, _+_, _*_, _≤_, _<_}
 use mathlib.Core.List.{List, List·Memᴰ}
 use mathlib.Core.Logic.{_⊎_}
 use lib.ListN.{length}
-use Rattle.schedule.specs.Limits.{latestStart, latestEnd, longestTime}
+use lib.IntN.{ℤ, subℕ}
+use lib.Signed.{_<ℤ_}
+use Rattle.schedule.specs.Limits.{latestStart, latestEnd, longestTime, leastPace, mostPace}
 use Rattle.schedule.specs.Cover.{Agreeing}
-use Rattle.refusals.specs.Refusals.{byRange, byNarrow, byUnlisted, byDone, byEarly}
-use Rattle.running.specs.Running.{Running, jobIn}
+use Rattle.refusals.specs.Refusals.{byRange, byDisorder, byNarrow, byUnlisted, byDone, byEarly}
+use Rattle.pairs.specs.Pairs.{numberWord}
+use Rattle.row_reader.specs.NearestMinute.{lengthOf}
+use Rattle.running.specs.Running.{Running, jobIn, pagesIn}
 use Rattle.running.specs.Words.{deskWords, running, IsDesk}
 
 -- A desk is opened with an accepted book: the run is too short for a desk.
@@ -20,6 +24,33 @@ pub data StartTurned (d : Running) (i m : ℕ) : (n p : ℕ) → Type 0 where
   done : 1 ≤ i → i ≤ length (d .rows) → ¬ List·Memᴰ i (d .left) → StartTurned d i m byDone i
   early : 1 ≤ i → i ≤ length (d .rows) → List·Memᴰ i (d .left) →
       (m < d .minute) ⊎ (m < jobIn (d .rows) i .release) ⊎ (latestStart < m) → StartTurned d i m byEarly 0
+
+-- The due of a row, and its spare by a pace: due minus release minus the length that its pages then have, signed. Two rows disagree by the
+-- pace if one has the smaller due and also the smaller spare.
+module _ (d : Running) (pace : ℕ) where
+  abbrev pub dueOf : ℕ → ℕ
+  dueOf i = jobIn (d .rows) i .due
+
+  abbrev pub spareBy : ℕ → ℤ
+  spareBy i = subℕ (dueOf i) (jobIn (d .rows) i .release + lengthOf (pagesIn (d .pages) i) pace)
+
+  abbrev pub TighterBy : ℕ → ℕ → Type 0
+  TighterBy i j = (dueOf i < dueOf j) × (spareBy i <ℤ spareBy j)
+
+  abbrev pub DisagreeBy : ℕ → ℕ → Type 0
+  DisagreeBy i j = TighterBy i j ⊎ TighterBy j i
+
+  -- Row k is the earliest row left that disagrees with a row left above it. Rows done are not looked at.
+  pub record EarliestLeft (k : ℕ) : Type 0 where
+    pub left : List·Memᴰ k (d .left)
+    pub disagrees : (j : ℕ) × List·Memᴰ j (d .left) × (j < k) × DisagreeBy k j
+    pub none-before : (g h : ℕ) → List·Memᴰ g (d .left) → List·Memᴰ h (d .left) → g < h → h < k → ¬ DisagreeBy h g
+
+  -- A change of pace on a running desk: outside the limits of a book; then, two rows left disagree by their new lengths, at the number
+  -- word of the row, which is its place in the book.
+  pub data PaceTurned : (n p : ℕ) → Type 0 where
+    range : ¬ ((leastPace ≤ pace) × (pace ≤ mostPace)) → PaceTurned byRange 0
+    disorder : leastPace ≤ pace → pace ≤ mostPace → (k : ℕ) → EarliestLeft k → PaceTurned byDisorder (numberWord k)
 
 -- The words hold a desk whose rows left can be planned: its minute leaves room for them, and no two of them disagree.
 pub record CanPlan (ws : List ℕ) : Type 0 where

@@ -21,11 +21,13 @@ use Rattle.running.specs.Words.{deskWords, running}
 use Rattle.desk_open.specs.Opens.{openOpens}
 use Rattle.desk_start.specs.Starts.{openStarts}
 use Rattle.rows_left.specs.Left.{canPlan, plansHere}
+use Rattle.desk_pace.specs.Paces.{openPaces}
 use Rattle.desk_plans.specs.Plans.{openDeskPlans}
-use Rattle.open_desk.specs.History.{deskOpen, deskStart, deskList, deskPlan, Call, starts, lists, orders, afterCall, after}
-use Rattle.open_desk.specs.History.{openHistory}
+use Rattle.open_desk.specs.History.{deskOpen, deskStart, deskPace, deskList, deskPlan, Call, starts, paces, lists, orders}
+use Rattle.open_desk.specs.History.{afterCall, after, openHistory}
 
--- A call of the table with its reply: what it says, and the buffer after it. (The calls that open a desk and start a row have none.)
+-- A call of the table with its reply: what it says, and the buffer after it. (The calls that open a desk, start a row and change the pace
+-- have none.)
 pub record Asked : Type 0 where
   pub call : Call
   pub reply : Outcome Said
@@ -44,8 +46,8 @@ pub record Morning : Type 0 where
   pub holds : List ℕ × ℕ × Option ℤ
 
 -- How replies are written in the table, field by field: number, place, count, end, late, minute. A desk is opened: the count of rows, and
--- its minute. A row is started: the desk's new minute, and the worst lateness so far. Plans, an order's end and lateness, and a refusal,
--- each with the buffer.
+-- its minute. A row is started: the desk's new minute, and the worst lateness so far. The pace is changed. Plans, an order's end and
+-- lateness, and a refusal, each with the buffer.
 abbrev pub said : (number place count end : ℕ) → (late : ℤ) → (minute : ℕ) → Said
 said n p k e y t = record { number = n; place = p; count = k; end = e; late = y; minute = t }
 
@@ -54,6 +56,9 @@ opened k t = gives (said 0 0 k 0 (pos 0) t) []
 
 abbrev pub moved : ℕ → ℤ → Outcome Said
 moved t y = gives (said 0 0 0 0 y t) []
+
+abbrev pub changed : Outcome Said
+changed = gives (said 0 0 0 0 (pos 0) 0) []
 
 abbrev pub plans : ℕ → List ℕ → Outcome Said
 plans k b = gives (said 0 0 k 0 (pos 0) 0) b
@@ -67,6 +72,7 @@ refused n p b = gives (said n p 0 0 (pos 0) 0) b
 -- The reply that the definitions give to a call on a desk's words, and to calls one after another.
 abbrev pub replyTo : List ℕ → Call → Outcome Said
 replyTo ws (starts i m) = gives (deskStart ws i m .answer) []
+replyTo ws (paces p) = gives (deskPace ws p .answer) []
 replyTo ws (lists b) = deskList ws b
 replyTo ws (orders k b) = deskPlan ws k b
 
@@ -105,6 +111,23 @@ longRows = book 10000000 4 (entry 901 0 2000 0 ∷ entry 902 0 2000 0 ∷ [])
 
 abbrev pub classRow : List ℕ
 classRow = book 0 60 (sold 901 10 5 0 ∷ [])
+
+-- Rows of one class, due 60 minutes after release and length: rows 1 to 3 at pace 60 take 2, 1 and 2. The same with one row more above.
+abbrev pub soldRows : List ℕ
+soldRows = book 0 60 (sold 901 0 2 0 ∷ sold 902 2 1 0 ∷ sold 903 2 2 0 ∷ [])
+
+abbrev pub soldBelow : List ℕ
+soldBelow = book 0 60 (sold 901 0 1 0 ∷ sold 902 0 2 0 ∷ sold 903 2 1 0 ∷ [])
+
+-- Rows with two plans at pace 60 and one at pace 30; with one plan at both, of another order; with one at pace 60 and two at pace 30.
+abbrev pub twoThenOne : List ℕ
+twoThenOne = book 0 60 (sold 901 2 1 0 ∷ sold 902 0 1 0 ∷ sold 903 1 4 0 ∷ [])
+
+abbrev pub otherOrder : List ℕ
+otherOrder = book 0 60 (entry 901 0 4 2 ∷ entry 902 2 1 1 ∷ entry 903 0 1 0 ∷ [])
+
+abbrev pub oneThenTwo : List ℕ
+oneThenTwo = book 0 60 (entry 901 1 6 3 ∷ entry 902 0 1 0 ∷ entry 903 3 1 1 ∷ [])
 
 abbrev pub mornings : List Morning
 mornings =
@@ -306,6 +329,95 @@ mornings =
       calls = (starts 1 10 gets moved 15 (negsuc 59)) ∷ [];
       holds = ([], 15, some (negsuc 59));
     } ∷
+    -- A new reader at noon. A class book: at pace 30 rows 1 and 2 take 4 and 2 minutes, their dues stay 62 and 63, and so row 2 has the
+    -- larger due and the larger spare, 59 against 58: refused 8 at its number word, and the desk goes on at pace 60. Once row 1 is done the
+    -- rows left agree: they take 2 and 4 minutes from then on, row 1 keeps its end and its lateness, and no due is worked out again.
+    record {
+      book = soldRows;
+      opening = 0;
+      told = opened 3 0;
+      calls =
+          (paces 30 gets refused 8 6 []) ∷
+          (starts 1 0 gets moved 2 (negsuc 59)) ∷
+          (lists (0 ∷ 0 ∷ 0 ∷ 0 ∷ []) gets plans 1 (5 ∷ 4294967237 ∷ 0 ∷ 0 ∷ [])) ∷
+          (paces 30 gets changed) ∷
+          (lists (0 ∷ 0 ∷ 0 ∷ 0 ∷ []) gets plans 1 (8 ∷ 4294967240 ∷ 0 ∷ 0 ∷ [])) ∷
+          (orders 1 (0 ∷ 0 ∷ []) gets order 8 (negsuc 55) (2 ∷ 3 ∷ [])) ∷
+          (starts 2 2 gets moved 4 (negsuc 58)) ∷
+          (starts 3 4 gets moved 8 (negsuc 55)) ∷
+          [];
+      holds = ([], 8, some (negsuc 55));
+    } ∷
+    -- The place is that of the row in the book, and rows done are not looked at: row 3 disagrees with row 2, row 1 is done.
+    record {
+      book = soldBelow;
+      opening = 0;
+      told = opened 3 0;
+      calls =
+          (starts 1 0 gets moved 1 (negsuc 59)) ∷
+          (paces 30 gets refused 8 10 []) ∷
+          (starts 2 1 gets moved 3 (negsuc 58)) ∷
+          (paces 30 gets changed) ∷
+          (starts 3 3 gets moved 5 (negsuc 57)) ∷
+          (paces 60 gets changed) ∷
+          [];
+      holds = ([], 5, some (negsuc 57));
+    } ∷
+    -- Paces outside 4 to 120 are refused. The pace in force is accepted, and so is the way back: the plans are what they were.
+    record {
+      book = twoThenOne;
+      opening = 0;
+      told = opened 3 0;
+      calls =
+          (lists (0 ∷ 0 ∷ 0 ∷ 0 ∷ 0 ∷ 0 ∷ []) gets plans 2 (6 ∷ 4294967239 ∷ 7 ∷ 4294967238 ∷ 0 ∷ 0 ∷ [])) ∷
+          (paces 3 gets refused 3 0 []) ∷
+          (paces 121 gets refused 3 0 []) ∷
+          (paces 60 gets changed) ∷
+          (paces 30 gets changed) ∷
+          (lists (0 ∷ 0 ∷ 0 ∷ 0 ∷ 0 ∷ 0 ∷ []) gets plans 1 (12 ∷ 4294967243 ∷ 0 ∷ 0 ∷ 0 ∷ 0 ∷ [])) ∷
+          (orders 1 (0 ∷ 0 ∷ 0 ∷ []) gets order 12 (negsuc 52) (2 ∷ 1 ∷ 3 ∷ [])) ∷
+          (paces 60 gets changed) ∷
+          (orders 1 (0 ∷ 0 ∷ 0 ∷ []) gets order 6 (negsuc 56) (2 ∷ 3 ∷ 1 ∷ [])) ∷
+          [];
+      holds = (1 ∷ 2 ∷ 3 ∷ [], 0, none);
+    } ∷
+    -- The order of the one plan changes; and one plan becomes two.
+    record {
+      book = otherOrder;
+      opening = 0;
+      told = opened 3 0;
+      calls =
+          (orders 1 (0 ∷ 0 ∷ 0 ∷ []) gets order 6 (pos 5) (3 ∷ 1 ∷ 2 ∷ [])) ∷
+          (paces 30 gets changed) ∷
+          (orders 1 (0 ∷ 0 ∷ 0 ∷ []) gets order 12 (pos 10) (3 ∷ 2 ∷ 1 ∷ [])) ∷
+          [];
+      holds = (1 ∷ 2 ∷ 3 ∷ [], 0, none);
+    } ∷
+    record {
+      book = oneThenTwo;
+      opening = 0;
+      told = opened 3 0;
+      calls =
+          (lists (0 ∷ 0 ∷ 0 ∷ 0 ∷ 0 ∷ 0 ∷ []) gets plans 1 (8 ∷ 7 ∷ 0 ∷ 0 ∷ 0 ∷ 0 ∷ [])) ∷
+          (paces 30 gets changed) ∷
+          (lists (0 ∷ 0 ∷ 0 ∷ 0 ∷ 0 ∷ 0 ∷ []) gets plans 2 (16 ∷ 15 ∷ 17 ∷ 14 ∷ 0 ∷ 0 ∷ [])) ∷
+          [];
+      holds = (1 ∷ 2 ∷ 3 ∷ [], 0, none);
+    } ∷
+    -- Opening minutes stay: 1 and the length by the new pace. Lengths are rounded to the nearest minute, as a book's: at pace 50, 10 pages
+    -- take 12 and 1 page takes 1. At pace 120 they would take 5 and 1, and row 2 would have more spare than row 1.
+    record {
+      book = twoRows 12;
+      opening = 1;
+      told = opened 2 0;
+      calls =
+          (paces 120 gets refused 8 6 []) ∷
+          (paces 50 gets changed) ∷
+          (starts 2 0 gets moved 13 (pos 1)) ∷
+          (starts 1 13 gets moved 15 (pos 10)) ∷
+          [];
+      holds = ([], 15, some (pos 10));
+    } ∷
     -- M8's book is refused: nothing is written, and the words are no desk.
     record {
       book = twoRows 14;
@@ -313,6 +425,7 @@ mornings =
       told = refused 8 6 [];
       calls =
           (starts 1 1 gets refused 3 0 []) ∷
+          (paces 60 gets refused 3 0 []) ∷
           (lists (7 ∷ []) gets refused 3 0 (7 ∷ [])) ∷
           (orders 1 (7 ∷ []) gets refused 3 0 (7 ∷ [])) ∷
           [];
@@ -321,6 +434,6 @@ mornings =
     []
 
 pub mornings-hold : map workedOut mornings ≡ mornings
-unfolding openRows openDesk openPicks openPlans openReads openResults openOutcomes openOpens openStarts canPlan plansHere openDeskPlans
-    openHistory
+unfolding openRows openDesk openPicks openPlans openReads openResults openOutcomes openOpens openStarts openPaces canPlan plansHere
+    openDeskPlans openHistory
 mornings-hold = refl

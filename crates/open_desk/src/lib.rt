@@ -1,11 +1,13 @@
-// The calls of an open desk: opening it with a book, starting a row, the list of the rows left, and the order of a listed plan. Each has no
-// `requires`, and its contract gives its whole outcome for every content of the lent words.
+// The calls of an open desk: opening it with a book, starting a row, a change of pace, the list of the rows left, and the order of a listed
+// plan. Each has no `requires`, and its contract gives its whole outcome for every content of the lent words.
 ghost use mathlib.Core.Path.{_≡_};
 ghost use Rattle.outcomes.specs.Planning.{gives};
 ghost use Rattle.desk_open.specs.Opens.{openCall};
 ghost use Rattle.desk_start.specs.Starts.{startCall};
+ghost use Rattle.desk_pace.specs.Paces.{paceCall};
 ghost use Rattle.desk_plans.specs.Plans.{deskListCall, deskPlanCall};
 use desk_open::OpenAnswer;
+use desk_pace::PaceAnswer;
 use desk_start::StartAnswer;
 use outcomes::ListAnswer;
 use outcomes::OrderAnswer;
@@ -26,6 +28,13 @@ pub fn start(desk: &mut [u32], row: u32, minute: u32) -> StartAnswer
     ensures { λ r. ⌜ gives r (now (desk .exit)) ≡ startCall (now (desk .entry)) row minute ⌝ }
 {
     desk_start::start(desk, row, minute)
+}
+
+// Changes the pace: the rows left get lengths by it, from their pages.
+pub fn change_pace(desk: &mut [u32], pace: u32) -> PaceAnswer
+    ensures { λ r. ⌜ gives r (now (desk .exit)) ≡ paceCall (now (desk .entry)) pace ⌝ }
+{
+    desk_pace::change(desk, pace)
 }
 
 // The list of the rows left from the desk's minute on: for each plan two words, end and worst lateness in two's complement, by rising end.
