@@ -1,9 +1,10 @@
 // What crosses the C boundary: one struct for every answer, and each case of an answer in it.
 ghost use mathlib.Core.Path.{_≡_};
 ghost use Rattle.calls.specs.Answers.{saidNo, saidList, saidOrder, saidVerdict, saidPlace};
-ghost use Rattle.open_desk.specs.Answers.{saidOpen, saidStart};
+ghost use Rattle.open_desk.specs.Answers.{saidOpen, saidStart, saidPace};
 ghost use Rattle.answers.specs.Boundary.{answerOf};
 use desk_open::OpenAnswer;
+use desk_pace::PaceAnswer;
 use desk_start::StartAnswer;
 use outcomes::ListAnswer;
 use outcomes::OrderAnswer;
@@ -137,5 +138,21 @@ pub fn of_start(answer: StartAnswer) -> Answer
             minute: minute,
         },
         StartAnswer::Refused(number, place) => refused(number, place),
+    }
+}
+
+pub fn of_pace(answer: PaceAnswer) -> Answer
+    ensures { λ r. ⌜ r ≡ answerOf (saidPace answer) ⌝ }
+{
+    match answer {
+        PaceAnswer::Changed => Answer {
+            place: 0,
+            count: 0,
+            refusal: 0,
+            end: 0,
+            late: 0,
+            minute: 0,
+        },
+        PaceAnswer::Refused(number, place) => refused(number, place),
     }
 }

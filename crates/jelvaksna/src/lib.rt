@@ -8,8 +8,9 @@ ghost use Rattle.calls.specs.Calls.{listCall, boundCall, planCall, verdictCall}
 ghost use Rattle.row_calls.specs.Places.{placeCall};
 ghost use Rattle.desk_open.specs.Opens.{openCall};
 ghost use Rattle.desk_start.specs.Starts.{startCall};
+ghost use Rattle.desk_pace.specs.Paces.{paceCall};
 ghost use Rattle.desk_plans.specs.Plans.{deskListCall, deskPlanCall};
-ghost use Rattle.open_desk.specs.Answers.{saidOpen, saidStart};
+ghost use Rattle.open_desk.specs.Answers.{saidOpen, saidStart, saidPace};
 ghost use Rattle.readers.specs.Reads.{orderingRule, firstCome};
 ghost use Rattle.answers.specs.Boundary.{answerOf};
 use answers::Answer;
@@ -146,6 +147,15 @@ pub extern "C" fn jelvaksna_desk_start(desk: &mut [u32], row: u32, minute: u32) 
     ensures { λ _. ⌜ now (desk .exit) ≡ startCall (now (desk .entry)) row minute .buffer ⌝ }
 {
     answers::of_start(open_desk::start(desk, row, minute))
+}
+
+// Changes the pace of an open desk: the rows left get lengths by it. Nothing is answered but that it is accepted.
+#[no_mangle]
+pub extern "C" fn jelvaksna_desk_pace(desk: &mut [u32], pace: u32) -> Answer
+    ensures { λ r. ⌜ r ≡ answerOf (saidPace (paceCall (now (desk .entry)) pace .answer)) ⌝ }
+    ensures { λ _. ⌜ now (desk .exit) ≡ paceCall (now (desk .entry)) pace .buffer ⌝ }
+{
+    answers::of_pace(open_desk::change_pace(desk, pace))
 }
 
 // The list of the rows left on an open desk, from its minute on.

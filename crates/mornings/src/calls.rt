@@ -3,6 +3,7 @@ ghost use mathlib.Core.Path.{_≡_};
 ghost use lib.ListN.{length};
 use crate::say;
 use desk_open::OpenAnswer;
+use desk_pace::PaceAnswer;
 use desk_start::StartAnswer;
 use outcomes::ListAnswer;
 use outcomes::OrderAnswer;
@@ -31,6 +32,14 @@ fn start(desk: &mut [u32], row: u32, minute: u32) {
     }
 }
 
+// A change that is accepted says nothing more: 0 in the place of a refusal.
+fn pace(desk: &mut [u32], pace: u32) {
+    match open_desk::change_pace(desk, pace) {
+        PaceAnswer::Changed => say::number(b' ', 0),
+        PaceAnswer::Refused(number, place) => say::refusal(number, place),
+    }
+}
+
 fn list(desk: &[u32], result: &mut [u32]) {
     match open_desk::list(desk, result) {
         ListAnswer::Plans(count) => say::number(b' ', count as u64),
@@ -52,6 +61,7 @@ pub fn call(letter: u8, words: &[u32], count: usize, desk: &mut [u32])
     requires { ⌜ length (now words) ≡ 64 ⌝ }
 {
     match letter {
+        b'e' => pace(desk, words[0]),
         b'g' => open_with(&words[..count % 65], desk),
         b'n' => open(0, &words[..count % 65], desk),
         b'r' => order(desk, words[0], &mut [7u32; 9]),

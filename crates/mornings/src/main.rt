@@ -4,6 +4,7 @@
 //     W, .. open=          opens the desk with the book of these words: the count of rows and the desk's minute
 //     O, W, .. opening=    opens it with O opening minutes; the other opens it with none
 //     R, M, start=         starts row R at the minute M: the desk's new minute and the worst lateness so far
+//     P, pace=             changes the pace to P: 0
 //     plans=               lists the plans of the rows left: how many they are
 //     K, order=            the order of plan K: its end and worst lateness
 //

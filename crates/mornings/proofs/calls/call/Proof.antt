@@ -7,6 +7,12 @@ use lib.Seq.{length-take-le}
 use Rattle.mornings.proofs.calls.call.Statement.{statement}
 use Rattle.mornings.proofs.calls.call.Tie as tie
 
+shared-slice-read-pace : tie.Need-shared-slice-read-pace
+shared-slice-read-pace c = search needs
+
+pace-requires : tie.Need-pace-requires
+pace-requires c κs = search needs
+
 slice-aggregate-open-with : tie.Need-slice-aggregate-open-with
 slice-aggregate-open-with c = sym (length-take-le _ _ (omega arith))
 
@@ -73,13 +79,21 @@ same-length-5 c = search needs
 returns-5 : tie.Need-returns-5
 returns-5 c = search needs
 
+same-length-6 : tie.Need-same-length-6
+same-length-6 c = search needs
+
 returns-6 : tie.Need-returns-6
 returns-6 c = search needs
+
+returns-7 : tie.Need-returns-7
+returns-7 c = search needs
 
 pub call-spec : {M : Type 1} → statement M
 call-spec =
     tie.close
     (tie.spec
+    shared-slice-read-pace
+    pace-requires
     slice-aggregate-open-with
     open-with-requires
     slice-aggregate-open
@@ -102,4 +116,6 @@ call-spec =
     returns-4
     same-length-5
     returns-5
-    returns-6)
+    same-length-6
+    returns-6
+    returns-7)
