@@ -50,7 +50,8 @@
  * refused RANGE at 0, before the book is looked at.
  *
  * From 1.x: pass 0 as the first argument of these nine calls, and every answer
- * is what 1.5 gave. A desk that 1.5 left is, word for word, one opened with 0.
+ * is what 1.5 gave. A desk that 1.5 left is, word for word, one that 2.0
+ * opened with 0.
  *
  * A PLAN is a pair that some order of all rows attains, its end and its worst
  * lateness (the largest of end minus due; below 0 where all work is early),
@@ -70,22 +71,36 @@
  * its order may differ.
  *
  * THE OPEN DESK is a run of JELVAKSNA_DESK_WORDS words or more that is filled
- * from a book when it is opened. It holds the rows, which of them are done, the
- * opening minutes that it was opened with, the desk's minute, and the worst
- * lateness so far: none until a row is done. Later calls on it lend no book and
- * are told no opening. A start takes a row off the rows left. The list and the
- * order of a plan are those of the rows left, which keep their row numbers, from
- * the desk's minute on; latenesses are those of the rows left alone. The profile
- * has no open desk. Words of a longer run past those of the desk hold what they
- * held, in every call.
+ * from a book when it is opened. It holds the rows with the pages of each,
+ * which of them are done, the opening minutes that it was opened with, the
+ * desk's minute, and the worst lateness so far: none until a row is done.
+ * Later calls on it lend no book and are told no opening. A start takes a row
+ * off the rows left. The list and the order of a plan are those of the rows
+ * left, which keep their row numbers, from the desk's minute on; latenesses
+ * are those of the rows left alone. The profile has no open desk. Words of a
+ * longer run past those of the desk hold what they held, in every call.
+ *
+ * A CHANGE OF PACE is made where another reader sits down at an open desk. The
+ * rows left get new lengths, from their pages by the new pace, to the nearest
+ * minute as in a book. Nothing else moves: not the desk's minute, the worst
+ * lateness so far, or anything of a row that is done; not the opening minutes,
+ * and no due. A due that a class gave stays too, so the row's spare may no
+ * longer be the margin, and rows of one class may come to disagree. A change
+ * after which two rows left would disagree is refused, and the desk goes on at
+ * its old pace. Rows done are not looked at: a change that is refused may be
+ * accepted once another row is done, and with one row left or none no two
+ * disagree. The pace that the desk has is accepted again, and changes no word.
  *
  * How the words are laid out is the library's own and may change with a
  * version; how many they are does not. On one version a desk may be copied,
- * stored and moved as plain words. Calls that write a desk (open, start) must
- * not run at the same time as any other call on it; calls that only read it
- * (list, order of plan) may run at the same time as each other. A refused call
- * leaves the desk as it is, so it always holds what the accepted starts alone
- * give.
+ * stored and moved as plain words. Calls that write a desk (open, start, pace)
+ * must not run at the same time as any other call on it; calls that only read
+ * it (list, order of plan) may run at the same time as each other. A refused
+ * call leaves the desk as it is, so it always holds what the accepted starts
+ * and changes of pace alone give, in their order.
+ *
+ * From 2.0: nothing to change. A desk that 2.0 left stays open, but its pace
+ * cannot be changed (RANGE at 0): it has no pages.
  *
  * A run that is shorter, or that a call can see to be no desk, is refused RANGE
  * at 0 and left as it is. But a run that was never opened, or that was written
@@ -94,27 +109,27 @@
  *
  * Ends and latenesses on a desk are at most 27,687,680 (on a book 17,687,680),
  * its minute at most 20,030,030. A start past minute 20,000,000 is refused
- * EARLY, so a desk whose own minute is past it can start nothing more; its list
- * and its orders go on.
+ * EARLY, so a desk whose own minute is past it can start nothing more; its
+ * list, its orders and changes of its pace go on.
  *
  * WHAT IS LENT. Pointers are aligned for uint32_t, their lengths count words,
- * and all those words can be read; those of `result`, and of the desk that is
- * opened or started on, can also be written. What can be written overlaps
- * nothing else that is lent to the same call: no `result` overlaps a desk, and
- * no desk its book. Where a length is 0 the pointer may be NULL. Only `result`
- * and the desk that is opened or started on are ever written, on success only,
- * and only as far as each call says; further words of them hold what they held.
- * A refused call writes nothing.
+ * and all those words can be read; those of `result`, and of the desk in a
+ * call that writes one (open, start, pace), can also be written. What can be
+ * written overlaps nothing else that is lent to the same call: no `result`
+ * overlaps a desk, and no desk its book. Where a length is 0 the pointer may
+ * be NULL. Only `result`, and the desk in these three calls, are ever written,
+ * on success only, and only as far as each call says; further words of them
+ * hold what they held. A refused call writes nothing.
  *
  * STACK. A call uses up to 40 KB of its caller's stack, as measured on x86-64;
  * that there is room is not proved. Give a thread that calls 64 KB at least.
  *
  * THE SEQUENCE OF REFUSALS. A call that is told an opening, or lent a desk in
- * place of a book, begins with RANGE, at 0. The words of the book are tested
- * from the first on, at one word in the sequence CUT, KIND, FULL, RANGE, TWICE,
- * COUNT. Then come TAIL, DISORDER (in the profile CROSSED), NOT_POSTING,
- * UNLISTED, DONE, EARLY, NARROW, UNKEPT. The first condition met is the one that
- * is told.
+ * place of a book, begins with RANGE, at 0; a change of pace then tests the
+ * pace, RANGE at 0 too. The words of the book are tested from the first on, at
+ * one word in the sequence CUT, KIND, FULL, RANGE, TWICE, COUNT. Then come
+ * TAIL, DISORDER (in the profile CROSSED), NOT_POSTING, UNLISTED, DONE, EARLY,
+ * NARROW, UNKEPT. The first condition met is the one that is told.
  */
 #ifndef JELVAKSNA_H
 #define JELVAKSNA_H
@@ -122,17 +137,17 @@
 #include <stddef.h>
 #include <stdint.h>
 
-#define JELVAKSNA_VERSION "2.0"
+#define JELVAKSNA_VERSION "2.1"
 
 /* The refusals, and the place that comes with each. */
 #define JELVAKSNA_CUT 1          /* the book stops where a word is due: its length */
 #define JELVAKSNA_KIND 2         /* another kind is due here: the word */
-#define JELVAKSNA_RANGE 3        /* a value outside its range: the word; the opening, or no desk: 0 */
+#define JELVAKSNA_RANGE 3        /* a value outside its range: the word; the opening, a new pace, or no desk: 0 */
 #define JELVAKSNA_TWICE 4        /* the number of an earlier row: the number word */
 #define JELVAKSNA_FULL 5         /* a number word would open row 257: that word */
 #define JELVAKSNA_COUNT 6        /* the end word differs from the rows read: that word */
 #define JELVAKSNA_TAIL 7         /* a word follows the end word: that word */
-#define JELVAKSNA_DISORDER 8     /* two rows disagree: number word of the first row that does with one above */
+#define JELVAKSNA_DISORDER 8     /* two rows (on a desk, rows left) disagree: number word of the first row that does with one above */
 #define JELVAKSNA_NARROW 9       /* the result, or the run for a desk, is too short: 0 */
 #define JELVAKSNA_NOT_POSTING 10 /* not every row once: see jelvaksna_verdict */
 #define JELVAKSNA_UNLISTED 11    /* no row or plan of that number: how many there are */
@@ -143,6 +158,8 @@
 
 /* Limits. */
 #define JELVAKSNA_MAX_OPENING 30      /* opening minutes */
+#define JELVAKSNA_MIN_PACE 4          /* pages an hour, at least */
+#define JELVAKSNA_MAX_PACE 120        /* pages an hour, at most */
 #define JELVAKSNA_MAX_ROWS 256        /* words that any order fits in */
 #define JELVAKSNA_MAX_LIST_WORDS 512  /* words that any list fits in */
 #define JELVAKSNA_MAX_BOOK_WORDS 1027 /* words of the longest accepted book */
@@ -243,23 +260,35 @@ jelvaksna_answer jelvaksna_first_come_row_place(const uint32_t *book, size_t boo
 
 /* The calls of the open desk.
  *
- * Opens a desk with a book: all its rows are left, at the free minute. It keeps
- * `opening`. `desk` has JELVAKSNA_DESK_WORDS words or more and may hold
- * anything; so many of them are written. Answers `count`, the count of rows, and
- * `minute`, the desk's.
+ * Opens a desk with a book: all its rows are left, at the free minute. It
+ * keeps `opening`, and the pages of each row. `desk` has JELVAKSNA_DESK_WORDS
+ * words or more and may hold anything; so many of them are written. Answers
+ * `count`, the count of rows, and `minute`, the desk's.
  * Refused: 1 to 8, NARROW. */
 jelvaksna_answer jelvaksna_desk_open(uint32_t opening,
                                      const uint32_t *book, size_t book_len,
                                      uint32_t *desk, size_t desk_len);
 
 /* Starts a row at a minute. The row is done, and the desk moves to that minute
- * plus opening plus the row's length. Answers `minute`, the desk's new one, and
- * `late`, the worst lateness so far; it is below 0 where every row done was
- * early.
+ * plus opening plus the length that the row then has. Answers `minute`, the
+ * desk's new one, and `late`, the worst lateness so far; it is below 0 where
+ * every row done was early.
  * Refused: RANGE, UNLISTED with the count of all rows of the desk, DONE with
  * the row, EARLY. */
 jelvaksna_answer jelvaksna_desk_start(uint32_t *desk, size_t desk_len,
                                       uint32_t row, uint32_t minute);
+
+/* Changes the pace to `pace` pages an hour: the rows left get new lengths, and
+ * nothing else moves, no due either. It may be called at any time, as often as
+ * readers change, with no row left too. An accepted change answers 0 in every
+ * field.
+ * Refused: RANGE for the run; RANGE for a pace outside 4 to 120, at 0 as well;
+ * DISORDER where two rows left disagree by their new lengths. Its place is
+ * 4 * row - 2 with the first row left that disagrees with a row left above it:
+ * where the row's number word stood in the book that the desk was opened with,
+ * whatever rows are done. */
+jelvaksna_answer jelvaksna_desk_pace(uint32_t *desk, size_t desk_len,
+                                     uint32_t pace);
 
 /* The list of the rows left. `result` as for a book's list, with two words for
  * each row left or more. Answers `count`, the count of plans: at least 1 as

@@ -1,6 +1,6 @@
 /* Every lent buffer ends where a page that cannot be touched begins, then
- * begins where one ends: an access past either end faults. Books and postings
- * are lent on pages that cannot be written. */
+ * begins where one ends: an access past either end faults. Books and postings,
+ * and desks that are only read, are lent on pages that cannot be written. */
 #define _GNU_SOURCE
 #include "jelvaksna.h"
 #include <stdio.h>
@@ -32,7 +32,7 @@ static void unfence(uint32_t *words, size_t n, int at_end) {
 }
 
 static int bad(const char *what, size_t n) {
-    printf("guard pages: %s, book of %zu words\n", what, n);
+    printf("guard pages: %s, book or desk of %zu words\n", what, n);
     return 1;
 }
 
@@ -140,6 +140,77 @@ static size_t make(uint32_t *book, size_t rows, int with_long) {
     return n;
 }
 
+/* The calls of the open desk on a run of n words: one that holds a desk of so
+ * many rows of `make` with a long one, and perhaps some words more, or the first
+ * words of one. Where it is too short every call is refused. */
+static int desk_calls(const uint32_t *sound, size_t n, size_t rows, int at_end) {
+    const uint32_t want = n < JELVAKSNA_DESK_WORDS ? JELVAKSNA_RANGE : 0;
+    uint32_t *desk = fenced(sound, n, at_end, PROT_READ | PROT_WRITE);
+    uint32_t *list = fenced(NULL, 2 * rows, at_end, PROT_READ | PROT_WRITE);
+    uint32_t *order = fenced(NULL, rows, at_end, PROT_READ | PROT_WRITE);
+    if (desk == NULL || list == NULL || order == NULL)
+        return 1;
+
+    /* At twice the pace the long row, which is due last, has the most spare. */
+    jelvaksna_answer a = jelvaksna_desk_pace(desk, n, 120);
+    if (a.refusal != (want != 0 ? want : JELVAKSNA_DISORDER) || a.place != (want != 0 ? 0 : 4 * rows - 2))
+        return bad("pace that is refused", n);
+    a = jelvaksna_desk_pace(desk, n, JELVAKSNA_MAX_PACE + 1);
+    if (a.refusal != JELVAKSNA_RANGE || a.place != 0)
+        return bad("no pace", n);
+    if (n > 0 && memcmp(desk, sound, n * sizeof *desk) != 0)
+        return bad("refused pace that writes", n);
+    a = jelvaksna_desk_pace(desk, n, 30);
+    if (a.refusal != want || a.place != 0)
+        return bad("pace", n);
+    a = jelvaksna_desk_start(desk, n, 1, 9);
+    if (a.refusal != want || a.place != 0 || a.minute != (want != 0 ? 0 : 11))
+        return bad("start", n);
+    for (size_t i = want != 0 ? 0 : JELVAKSNA_DESK_WORDS; i < n; i++)
+        if (desk[i] != sound[i])
+            return bad("a word that no call writes", n);
+
+    uint32_t *still = fenced(desk, n, at_end, PROT_READ);
+    if (still == NULL)
+        return 1;
+    a = jelvaksna_desk_list(still, n, list, 2 * (rows - 1));
+    if (a.refusal != want || (want == 0) != (a.count > 0))
+        return bad("list of a desk", n);
+    a = jelvaksna_desk_order_of_plan(still, n, 1, order, rows - 1);
+    if (a.refusal != want || (want == 0 && a.end != list[0]))
+        return bad("order of a desk", n);
+
+    unfence(desk, n, at_end);
+    unfence(still, n, at_end);
+    unfence(list, 2 * rows, at_end);
+    unfence(order, rows, at_end);
+    return 0;
+}
+
+/* Every run that is too short to open a desk in, then desks in runs of every
+ * length. */
+static int desks(const uint32_t *sound, size_t rows, int at_end) {
+    const size_t words = 4 * rows + 3;
+    uint32_t *book = fenced(sound, words, at_end, PROT_READ);
+    static uint32_t opened[JELVAKSNA_DESK_WORDS + 9];
+    for (size_t n = 0; n <= sizeof opened / sizeof *opened; n++) {
+        uint32_t *desk = fenced(opened, n, at_end, PROT_READ | PROT_WRITE);
+        if (book == NULL || desk == NULL)
+            return 1;
+        jelvaksna_answer a = jelvaksna_desk_open(0, book, words, desk, n);
+        if (a.refusal != (n < JELVAKSNA_DESK_WORDS ? JELVAKSNA_NARROW : 0) || a.place != 0)
+            return bad("open", n);
+        if (n == JELVAKSNA_DESK_WORDS)
+            memcpy(opened, desk, n * sizeof *desk);
+        unfence(desk, n, at_end);
+    }
+    for (size_t n = 0; n <= sizeof opened / sizeof *opened; n++)
+        if (desk_calls(opened, n, rows, at_end) != 0)
+            return 1;
+    unfence(book, words, at_end);
+    return 0;
+}
+
 int main(void) {
     uint32_t book[JELVAKSNA_MAX_BOOK_WORDS];
     for (int at_end = 0; at_end < 2; at_end++) {
@@ -153,6 +224,9 @@ int main(void) {
                 if (calls(&first_come, (uint32_t)n % (JELVAKSNA_MAX_OPENING + 1), book, n, rows, at_end) != 0)
                     return 1;
         }
+        make(book, 7, 1);
+        if (desks(book, 7, at_end) != 0)
+            return 1;
     }
     puts("guard pages: ok");
     return 0;

@@ -1,6 +1,7 @@
 /* A morning at an open desk: opened with a book, planned, two rows started,
- * planned again; starts that are refused, with what is wrong and where; the desk
- * at the end of the day; and a desk where each transcript takes minutes to open.
+ * planned again; starts that are refused, with what is wrong and where; at noon
+ * a change of pace that is refused, and one that is not; the desk at the end of
+ * the day; and a desk where each transcript takes minutes to open.
  *
  *     cc -std=c11 -Iinclude host/c/morning.c target/staticlib/libjelvaksna.a
  */
@@ -31,7 +32,9 @@ static size_t print_plans(const uint32_t *desk, size_t left) {
 static const char *wrong(uint32_t refusal) {
     switch (refusal) {
     case JELVAKSNA_RANGE:
-        return "that is no desk";
+        return "that is no desk, or no pace";
+    case JELVAKSNA_DISORDER:
+        return "the row and one above it that is left would disagree";
     case JELVAKSNA_UNLISTED:
         return "there is no such row";
     case JELVAKSNA_DONE:
@@ -39,7 +42,7 @@ static const char *wrong(uint32_t refusal) {
     case JELVAKSNA_EARLY:
         return "too early, or past the last minute";
     default:
-        return "no refusal of a start";
+        return "no refusal of a start or a change of pace";
     }
 }
 
@@ -49,6 +52,17 @@ static jelvaksna_answer start(uint32_t *desk, uint32_t row, uint32_t minute) {
     printf("row %" PRIu32 " at %" PRIu32 ": ", row, minute);
     if (answer.refusal == 0)
         printf("the desk is free at %" PRIu32 ", worst lateness so far %" PRId32 "\n", answer.minute, answer.late);
+    else
+        printf("refused %" PRIu32 " at %zu: %s\n", answer.refusal, answer.place, wrong(answer.refusal));
+    return answer;
+}
+
+/* Changes the pace and says so, or what is wrong and where. */
+static jelvaksna_answer pace(uint32_t *desk, uint32_t pages_an_hour) {
+    jelvaksna_answer answer = jelvaksna_desk_pace(desk, JELVAKSNA_DESK_WORDS, pages_an_hour);
+    printf("%" PRIu32 " pages an hour: ", pages_an_hour);
+    if (answer.refusal == 0)
+        puts("the rows left have new lengths");
     else
         printf("refused %" PRIu32 " at %zu: %s\n", answer.refusal, answer.place, wrong(answer.refusal));
     return answer;
@@ -115,15 +129,34 @@ int main(void) {
     EXPECT(result[0] == 77 && result[2] == 77);
     EXPECT(memcmp(copy, desk, sizeof copy) == 0);
 
+    /* Noon. At 120 pages an hour rows 3 and 4 would take 1 and 10 minutes, and row 4, which is due
+     * later, would have more spare: refused at its number word in the book, which was word 14. */
+    answer = pace(desk, 120);
+    EXPECT(answer.refusal == JELVAKSNA_DISORDER && answer.place == 14);
+    answer = pace(desk, JELVAKSNA_MIN_PACE - 1);
+    EXPECT(answer.refusal == JELVAKSNA_RANGE && answer.place == 0);
+    EXPECT(memcmp(copy, desk, sizeof copy) == 0);
+
+    /* A reader of 40 sits down: 1 page takes 1.5 minutes and 20 take 30, so they take 2 and 30. The dues
+     * stay, and so do the desk's minute and the worst lateness so far. */
+    answer = pace(desk, 40);
+    EXPECT(answer.refusal == 0 && answer.place == 0 && answer.count == 0);
+    EXPECT(answer.end == 0 && answer.late == 0 && answer.minute == 0);
+    EXPECT(print_plans(desk, 2) == 2);
+
     /* What is left, and the desk at the end of the day. It may be moved as plain words. */
+    memcpy(copy, desk, sizeof copy);
     answer = start(copy, 3, 541);
-    EXPECT(answer.refusal == 0 && answer.minute == 542 && answer.late == 1);
+    EXPECT(answer.refusal == 0 && answer.minute == 543 && answer.late == 1);
     EXPECT(print_plans(copy, 1) == 1);
-    answer = start(copy, 4, 542);
-    EXPECT(answer.refusal == 0 && answer.minute == 562 && answer.late == 1);
+    answer = start(copy, 4, 543);
+    EXPECT(answer.refusal == 0 && answer.minute == 573 && answer.late == 11);
     EXPECT(print_plans(copy, 0) == 0);
     answer = jelvaksna_desk_order_of_plan(copy, JELVAKSNA_DESK_WORDS, 1, NULL, 0);
     EXPECT(answer.refusal == JELVAKSNA_UNLISTED && answer.place == 0);
+    /* With no row left no two disagree. */
+    answer = jelvaksna_desk_pace(copy, JELVAKSNA_DESK_WORDS, JELVAKSNA_MAX_PACE);
+    EXPECT(answer.refusal == 0);
 
     /* The other desk keeps its opening minutes: a start moves it by 2 plus the length. */
     puts("2 minutes to open each:");

@@ -1,5 +1,6 @@
 //! A morning at an open desk through the safe wrapper: opened with a book, planned, two rows
-//! started, planned again; starts that are refused; and a desk where each row takes time to open.
+//! started, planned again; starts that are refused; at noon a change of pace that is refused, and one
+//! that is not; and a desk where each row takes time to open.
 //!
 //!     cargo run --offline --release --manifest-path host/Cargo.toml --example morning
 
@@ -53,6 +54,22 @@ fn main() -> Result<(), Refusal> {
         }
         assert_eq!(words, before);
     }
+
+    // Noon. At 120 pages an hour row 4 would have more spare than row 3, which is due sooner: refused at
+    // its number word in the book. A reader of 40 sits down, and rows 3 and 4 take 2 and 30 minutes.
+    for pace in [120, 40] {
+        let before = words;
+        match desk::pace(&mut words, pace) {
+            Ok(()) => println!("{pace} pages an hour:"),
+            Err(Refusal { number, place }) => {
+                println!("{pace} pages an hour: refused {number} at {place}");
+                assert_eq!(words, before);
+            }
+        }
+    }
+    print_plans(&words, 2)?;
+    let moved = desk::start(&mut words, 3, 541)?;
+    println!("row 3 started at 541: the desk is free at {}", moved.minute);
 
     // The other desk keeps its opening minutes: a start moves it by 2 plus the length.
     println!("2 opening minutes:");

@@ -8,7 +8,7 @@
 //! disagree.
 
 use crate::model::{length, MARGINS, MAX_ROWS};
-use crate::{word, Pair, MAX_OPENING};
+use crate::{word, Pair, MAX_OPENING, MAX_PACE, MIN_PACE};
 use std::ops::Range;
 
 /// The seed of a test run: `JELVAKSNA_SEED` (decimal, or hexadecimal after 0x), or a fixed one.
@@ -94,6 +94,12 @@ pub fn opening(rng: &mut Rng, refused_one_in: usize) -> u32 {
         false => rng.pick(&OPENINGS),
     }
 }
+
+/// Paces that a desk may change to, whose reading times are often exact halves and often not.
+pub const PACES: [u32; 12] = [4, 5, 7, 16, 24, 30, 40, 50, 61, 80, 119, MAX_PACE];
+
+/// Paces that are refused.
+pub const REFUSED_PACES: [u32; 7] = [0, 1, MIN_PACE - 1, MAX_PACE + 1, 1 << 29, 1 << 31, u32::MAX];
 
 /// A day before it is put into words.
 #[derive(Clone, Debug)]
@@ -255,6 +261,29 @@ impl Draft {
         margin
     }
 
+    /// A sorted day with its dues no later than they were, or rows released later, such that no two
+    /// rows disagree: at its own pace, and at any of these with the same dues.
+    fn agreeing_at(mut self, paces: &[u32]) -> Self {
+        let paces: Vec<i64> = paces.iter().map(|&pace| pace.into()).collect();
+        let paces = [&[self.pace], &paces[..]].concat();
+        // The least spare above at each pace. No spare may be more than that.
+        let mut least = vec![LAST_DUE; paces.len()];
+        let mut due = 0;
+        for row in &mut self.rows {
+            let reach = |pace: i64| row.release + length(row.pages, pace);
+            let both = least.iter().zip(&paces);
+            let most = both.map(|(spare, &pace)| spare + reach(pace)).min();
+            let most = most.expect("a pace");
+            row.release += (due - most).max(0);
+            row.due = row.due.min(most).max(due);
+            due = row.due;
+            for (spare, &pace) in least.iter_mut().zip(&paces) {
+                *spare = due - row.release - length(row.pages, pace);
+            }
+        }
+        self
+    }
+
     fn length(&self, row: &DraftRow) -> i64 {
         length(row.pages, self.pace)
     }
@@ -381,6 +410,25 @@ fn within_limits(rng: &mut Rng, opening: u32, rows: usize) -> Draft {
         5 => ties(rng, rows),
         _ => mixed(rng, rows),
     }
+}
+
+/// An accepted day of due rows, and three paces of readers who can take it over at any time: no two rows
+/// disagree at its own pace, nor at any of these with the dues that they have. One day in two is made to
+/// have several plans at each of them.
+pub fn lasting(rng: &mut Rng, opening: u32, rows: usize) -> (Draft, [u32; 3]) {
+    let any = |rng: &mut Rng, most: i64| [(); 3].map(|()| rng.range(MIN_PACE.into(), most) as u32);
+    let (day, paces) = match rng.one_in(2) {
+        true => {
+            let paces = any(rng, MAX_PACE.into());
+            (long_among_short(rng, opening, rows, &paces), paces)
+        }
+        false => {
+            let day = within_limits(rng, opening, rows);
+            let paces = any(rng, day.pace);
+            (day, paces)
+        }
+    };
+    (day.agreeing_at(&paces).arriving(rng), paces)
 }
 
 /// A day of two rows and more that is refused for disorder alone: two rows disagree, and in one day
@@ -525,6 +573,30 @@ pub fn several_plans(rng: &mut Rng, opening: u32, rows: usize) -> Draft {
         let pages = ((minute - day.free) * pace / 60 + rng.range(1, 5)).clamp(1, MOST_PAGES);
         day.add(day.free, pages, 100);
     }
+    day.number(rng);
+    day
+}
+
+/// Short rows with growing gaps, and a long one that is there before them: the gaps are left at the slowest
+/// of these paces too, and the long row outlasts the short ones at the fastest too, where the pages allow
+/// it. So there are several plans at each.
+fn long_among_short(rng: &mut Rng, opening: u32, rows: usize, paces: &[u32]) -> Draft {
+    let slowest = paces.iter().min().copied().map_or(60, i64::from);
+    let fastest = paces.iter().max().copied().map_or(60, i64::from);
+    let mut day = Draft::empty(rng.range(0, 20), rng.pick(paces).into());
+    let spare = rng.range(0, 200);
+    let (mut minute, mut gap) = (day.free, 0);
+    let mut add = |release: i64, pages: i64| {
+        let due = release + length(pages, day.pace) + spare;
+        day.push(release, pages, due);
+    };
+    for _ in 1..rows {
+        gap += rng.pick(&[0, 1, 1, 2]);
+        add(minute + gap, 1);
+        minute += gap + i64::from(opening) + length(1, slowest);
+    }
+    let pages = minute * fastest / 60 + rng.range(1, 5);
+    add(0, pages.clamp(1, MOST_PAGES));
     day.number(rng);
     day
 }

@@ -1,23 +1,24 @@
-//! A second opinion on the open desk: request L6, with the opening minutes of request L7, as a plain
-//! program upon the model of a book.
+//! A second opinion on the open desk: request L6, with the opening minutes of request L7 and the changes
+//! of pace of request L8, as a plain program upon the model of a book.
 //!
 //! It knows nothing of the words that hold a desk. What is planned on a desk is planned as a day of
 //! the rows left alone that begins at the desk's minute.
 
-use crate::model::{refuse, Day, Row};
+use crate::model::{length, place_of_row, refuse, Day, Row};
 use crate::refusal::*;
-use crate::{Moved, Opened, Pair, Refusal};
+use crate::{Moved, Opened, Pair, Refusal, MAX_PACE, MIN_PACE};
 use std::cell::OnceCell;
 
 /// No row is started later.
 pub const LATEST_START: i64 = 20_000_000;
 
-/// A desk that was opened with a book, after some starts.
+/// A desk that was opened with a book, after some starts and changes of pace.
 #[derive(Clone, Debug)]
 pub struct Desk {
     /// The opening minutes that it was opened with.
     pub opening: i64,
-    /// All rows that it was opened with.
+    /// All rows that it was opened with: those done with the lengths that they had then, those left
+    /// with their lengths by the reader who sits there now.
     pub rows: Vec<Row>,
     /// The numbers of the rows left, from 1, rising.
     pub left: Vec<u32>,
@@ -78,6 +79,31 @@ impl Desk {
             minute: end as u32,
             worst: worst as i32,
         })
+    }
+
+    /// Another reader sits down: the rows left are read at another pace from here on, and everything
+    /// else stays, all dues too. 3 if there is no such pace; 8 if a row left then disagrees with one
+    /// above it that is left, at the number word that the earliest such row has in the book.
+    pub fn pace(&mut self, pace: u32) -> Result<(), Refusal> {
+        if !(MIN_PACE..=MAX_PACE).contains(&pace) {
+            return refuse(RANGE, 0);
+        }
+        let mut rows = self.rows.clone();
+        for &number in &self.left {
+            let row = &mut rows[number as usize - 1];
+            row.length = length(row.pages, pace.into());
+        }
+        let row = |number: u32| &rows[number as usize - 1];
+        for (i, &number) in self.left.iter().enumerate() {
+            for &above in &self.left[..i] {
+                if row(number).disagrees(row(above)) {
+                    return refuse(DISORDER, place_of_row(number as usize));
+                }
+            }
+        }
+        self.rows = rows;
+        self.rest = OnceCell::new();
+        Ok(())
     }
 
     /// The rows left as a day of their own.

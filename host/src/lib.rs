@@ -2,7 +2,7 @@
 //!
 //! - [`linked`]: the declarations of the archive and a safe wrapper over them (feature `archive`).
 //! - [`model`]: a second implementation of document 01 with requests L1 to L3, L5 and L7, from these alone.
-//! - [`desk_model`]: a second open desk of request L6, upon that model.
+//! - [`desk_model`]: a second open desk of requests L6 and L8, upon that model.
 //! - [`books`]: a seeded maker of books, sound and damaged.
 
 pub mod books;
@@ -12,10 +12,14 @@ pub mod linked;
 pub mod model;
 
 /// The version of the boundary, as in `include/jelvaksna.h`.
-pub const VERSION: &str = "2.0";
+pub const VERSION: &str = "2.1";
 
 /// The most opening minutes.
 pub const MAX_OPENING: u32 = 30;
+
+/// The least and the most pages an hour.
+pub const MIN_PACE: u32 = 4;
+pub const MAX_PACE: u32 = 120;
 
 /// The words of an open desk.
 pub const DESK_WORDS: usize = 1_288;

@@ -109,6 +109,7 @@ pub mod raw {
             row: u32,
             minute: u32,
         ) -> Answer;
+        pub fn jelvaksna_desk_pace(desk: *mut u32, desk_len: usize, pace: u32) -> Answer;
         pub fn jelvaksna_desk_list(
             desk: *const u32,
             desk_len: usize,
@@ -329,6 +330,11 @@ pub mod desk {
             unsafe { raw::jelvaksna_desk_start(desk.as_mut_ptr(), desk.len(), row, minute) }
         }
 
+        pub fn pace(desk: &mut [u32], pace: u32) -> Answer {
+            // SAFETY: as for `start`.
+            unsafe { raw::jelvaksna_desk_pace(desk.as_mut_ptr(), desk.len(), pace) }
+        }
+
         pub fn list(desk: &[u32], result: &mut [u32]) -> Answer {
             // SAFETY: both slices are live and aligned for the call, and `result` is lent alone.
             unsafe {
@@ -370,6 +376,12 @@ pub mod desk {
             minute: a.minute,
             worst: a.late,
         })
+    }
+
+    /// Another reader sits down, with another pace: the rows left get their lengths by it, and all dues
+    /// stay.
+    pub fn pace(desk: &mut [u32], pace: u32) -> Result<(), Refusal> {
+        told(plain::pace(desk, pace), |_| ())
     }
 
     /// Writes the listed plans of the rows left, two words each, and gives how many there are.

@@ -31,6 +31,7 @@ const KIND_END: u32 = 7;
 pub struct Row {
     pub number: u32,
     pub release: i64,
+    pub pages: i64,
     pub length: i64,
     /// As written, or worked out from the class.
     pub due: i64,
@@ -48,7 +49,7 @@ impl Row {
     }
 
     /// One of the two has the smaller due and also the smaller spare.
-    fn disagrees(&self, other: &Row) -> bool {
+    pub(crate) fn disagrees(&self, other: &Row) -> bool {
         let less = |a: &Row, b: &Row| a.due < b.due && a.spare() < b.spare();
         less(self, other) || less(other, self)
     }
@@ -155,6 +156,7 @@ impl Day {
             rows.push(Row {
                 number,
                 release,
+                pages,
                 length,
                 due,
                 class,
@@ -227,7 +229,7 @@ pub fn length(pages: i64, pace: i64) -> i64 {
 }
 
 /// Where the number word of a row stands, rows counted from 1.
-fn place_of_row(row: usize) -> usize {
+pub(crate) fn place_of_row(row: usize) -> usize {
     2 + 4 * (row - 1)
 }
 

@@ -1,7 +1,7 @@
 //! The header says what the Rust declarations say, and both what the archive exports and what the
 //! source of the exported functions says.
 
-use jelvaksna::{refusal, DESK_WORDS, MAX_OPENING, VERSION};
+use jelvaksna::{refusal, DESK_WORDS, MAX_OPENING, MAX_PACE, MIN_PACE, VERSION};
 use std::collections::BTreeSet;
 use std::fs::read_to_string;
 use std::process::Command;
@@ -93,7 +93,7 @@ fn prototypes() {
     let declared = declared.split_once("extern \"C\" {").unwrap().1;
     let declared = declared.split_once('}').unwrap().0;
     let header = header_functions();
-    assert_eq!(header.len(), 14);
+    assert_eq!(header.len(), 15);
     assert_eq!(header, of_source(declared, "pub fn "));
 }
 
@@ -180,6 +180,8 @@ fn constants() {
     }
     assert!(header.contains(&format!("number, 1 to {};", numbers.len())));
     assert_eq!(value("MAX_OPENING"), MAX_OPENING.to_string());
+    assert_eq!(value("MIN_PACE"), MIN_PACE.to_string());
+    assert_eq!(value("MAX_PACE"), MAX_PACE.to_string());
     let rows = jelvaksna::model::MAX_ROWS;
     assert_eq!(value("MAX_ROWS"), rows.to_string());
     assert_eq!(value("MAX_LIST_WORDS"), (2 * rows).to_string());

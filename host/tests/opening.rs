@@ -4,6 +4,7 @@
 
 mod common;
 
+use common::layout::PAGES;
 use common::{calls, compare, fail, fault, filled, refused, Call, Case, Effort};
 use jelvaksna::books::{self, Draft, Rng, REFUSED_OPENINGS};
 use jelvaksna::desk_model::Desk;
@@ -194,7 +195,7 @@ fn as_good_as_longer_lengths() {
     assert!(made > 2_000 && several > 200 && clashes > 500);
 }
 
-/// The same of an open desk, whose words then differ in one alone.
+/// The same of an open desk, whose words then differ in the opening and the pages alone.
 #[test]
 fn a_desk_as_good_as_one_of_longer_lengths() {
     let test = "a desk as good as one of longer lengths";
@@ -215,7 +216,7 @@ fn a_desk_as_good_as_one_of_longer_lengths() {
         assert_eq!(told, desk::open(0, &longer, &mut other));
         while !model.left.is_empty() {
             let differ = |&place: &usize| one[place] != other[place];
-            let places = (0..DESK_WORDS).filter(differ).count();
+            let places = (0..=PAGES).filter(differ).count();
             assert_eq!(places, usize::from(case.opening > 0), "{case:?}");
             let plans = desk::plans(&one).expect("a list");
             assert_eq!(Ok(&plans), desk::plans(&other).as_ref(), "{case:?}");

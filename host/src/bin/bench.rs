@@ -6,13 +6,13 @@
 
 use jelvaksna::books::{self, Draft, Rng};
 use jelvaksna::model::{self, Day, MAX_ROWS};
-use jelvaksna::{linked, linked::desk, Pair, Profile, DESK_WORDS};
+use jelvaksna::{linked, linked::desk, Pair, Profile, DESK_WORDS, MAX_PACE, MIN_PACE};
 use std::hint::black_box;
 use std::time::{Duration, Instant};
 
 const SIZES: [usize; 4] = [8, 32, 128, 256];
 const PLANS: [usize; 5] = [2, 8, 32, 128, 230];
-const DESKS: [usize; 2] = [30, 256];
+const DESKS: [usize; 3] = [8, 30, 256];
 const RUNS: usize = 9;
 /// The opening minutes that the calls are told: none.
 const OPENING: u32 = 0;
@@ -153,6 +153,23 @@ fn starts(opened: &[u32], row: u32, minute: u32) -> [(f64, f64); 2] {
     [start, refused]
 }
 
+/// A change of pace that leaves every word, to the pace that the desk has, and one that is refused since
+/// rows come to disagree; each beside a start that is refused since its row is done.
+fn changes(opened: &[u32], own: u32, row: u32, minute: u32) -> [(f64, f64); 2] {
+    let (mut one, mut other) = (opened.to_vec(), opened.to_vec());
+    desk::start(&mut other, row, minute).expect("accepted");
+    let mut refused = |&pace: &u32| desk::pace(&mut opened.to_vec(), pace).is_err();
+    let at_odds = (MIN_PACE..=MAX_PACE).find(&mut refused);
+    [own, at_odds.expect("a pace that sets rows at odds")].map(|pace| {
+        let times = time(
+            || desk::pace(black_box(&mut one), pace).is_ok(),
+            || desk::start(black_box(&mut other), row, minute).is_ok(),
+        );
+        assert_eq!(one, opened);
+        times
+    })
+}
+
 /// The calls of the open desk, each beside what it is to be measured by.
 fn open_desk(name: &str, day: &Draft) {
     let (book, rows) = (day.words(), day.rows.len());
@@ -168,7 +185,9 @@ fn open_desk(name: &str, day: &Draft) {
     assert_eq!(a, b);
     desk::order_of_plan(&opened, 1, &mut a).expect("listed");
     let release = day.rows[a[0] as usize - 1].release as u32;
-    let [start, refused] = starts(&opened, a[0], minute.max(release));
+    let (row, minute) = (a[0], minute.max(release));
+    let [start, refused] = starts(&opened, row, minute);
+    let [pace, at_odds] = changes(&opened, day.pace as u32, row, minute);
     let open = time(
         || desk::open(OPENING, black_box(&book), &mut again).is_ok(),
         || linked::row_words(black_box(&book), 1).is_ok(),
@@ -185,6 +204,8 @@ fn open_desk(name: &str, day: &Draft) {
         ("open", "reading the book alone", open),
         ("start, on a copy", "the copy alone", start),
         ("start, refused 14", "refused 3 for its length", refused),
+        ("pace, the same again", "start, refused 14", pace),
+        ("pace, refused 8", "start, refused 14", at_odds),
         ("list", "list of the book", list),
         ("order of plan 1", "the same of the book", order),
     ] {

@@ -66,12 +66,14 @@ impl Fence {
         }
     }
 
-    /// Puts the words against a fence, readable only.
+    /// Puts the words against a fence, readable only. Where there are none, nothing is to be protected.
     fn hold(&mut self, side: Side, words: &[u32]) -> std::ops::Range<usize> {
         let span = Self::span(side, words.len());
-        self.open(PROT_READ_WRITE);
-        self.all()[span.clone()].copy_from_slice(words);
-        self.open(PROT_READ);
+        if !words.is_empty() {
+            self.open(PROT_READ_WRITE);
+            self.all()[span.clone()].copy_from_slice(words);
+            self.open(PROT_READ);
+        }
         span
     }
 }

@@ -4,6 +4,7 @@
 
 pub mod fault;
 pub mod fence;
+pub mod layout;
 
 use jelvaksna::books::{self, Rng, OPENINGS};
 use jelvaksna::linked::{first_come::plain as first_come, plain as standard, Answer};
