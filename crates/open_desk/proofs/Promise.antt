@@ -214,13 +214,13 @@ module _ (opening pace : ℕ) (day : Day) (first-words : List ℕ) (calls : List
           absurd z
       step (passes t never) = t
 
-  abbrev paces : ℕ → ℕ
-  paces = paceFor pace done
+  abbrev paceOf : ℕ → ℕ
+  paceOf = paceFor pace done
 
   start-moves : (i m : ℕ) → deskStart words i m .answer .number ≡ 0 →
       let s : Start = record { row = i; minute = m } in
       deskStart words i m .answer ≡
-      saidMoved (endOfStart opening day paces s) (worstOf (map (latenessOfStart opening day paces) (startsAmong done ++ (s ∷ []))))
+      saidMoved (endOfStart opening day paceOf s) (worstOf (map (latenessOfStart opening day paceOf) (startsAmong done ++ (s ∷ []))))
   start-moves i m accepted-it =
       let passed = has-passed i m accepted-it in
       let row = of-day opening pace day done words s i m passed in

@@ -255,46 +255,46 @@ stands-left done is i m = step (stands i (taken done)) refl (stands i (notTaken 
     step false e c f = mem-stands i (notTaken done is) (row-left done is i m e)
 
 -- # One start more
-module _ (opening : ℕ) (day : Day) (paces : ℕ → ℕ) where
+module _ (opening : ℕ) (day : Day) (paceOf : ℕ → ℕ) where
   worst-on : (done : List Start) (s : Start) →
-      worstSoFar opening day paces (done ++ (s ∷ [])) ≡
-      some (worse (worstSoFar opening day paces done) (latenessOfStart opening day paces s))
+      worstSoFar opening day paceOf (done ++ (s ∷ [])) ≡
+      some (worse (worstSoFar opening day paceOf done) (latenessOfStart opening day paceOf s))
   unfolding worstSoFar worse worstOf
   worst-on [] s = refl
   worst-on (r ∷ rs) s =
       ap {B = Option ℤ} some
-      (ap worstOf (map-append (latenessOfStart opening day paces) (r ∷ rs) (s ∷ [])) ∙
-      worst-more (latenessOfStart opening day paces r) (map (latenessOfStart opening day paces) rs) (latenessOfStart opening day paces s))
+      (ap worstOf (map-append (latenessOfStart opening day paceOf) (r ∷ rs) (s ∷ [])) ∙
+      worst-more (latenessOfStart opening day paceOf r) (map (latenessOfStart opening day paceOf) rs) (latenessOfStart opening day paceOf s))
 
   -- With a start there is a worst lateness.
   worst-some : (done : List Start) (s : Start) →
-      worstSoFar opening day paces (done ++ (s ∷ [])) ≡ some (worstOf (map (latenessOfStart opening day paces) (done ++ (s ∷ []))))
+      worstSoFar opening day paceOf (done ++ (s ∷ [])) ≡ some (worstOf (map (latenessOfStart opening day paceOf) (done ++ (s ∷ []))))
   unfolding worstSoFar
   worst-some [] s = refl
   worst-some (r ∷ rs) s = refl
 
   minute-on : (t : ℕ) (done : List Start) (s : Start) →
-      minuteAfter opening day paces t (done ++ (s ∷ [])) ≡ endOfStart opening day paces s
+      minuteAfter opening day paceOf t (done ++ (s ∷ [])) ≡ endOfStart opening day paceOf s
   unfolding minuteAfter
   minute-on t [] s = refl
-  minute-on t (r ∷ rs) s = minute-on (endOfStart opening day paces r) rs s
+  minute-on t (r ∷ rs) s = minute-on (endOfStart opening day paceOf r) rs s
 
 module _ (opening pace : ℕ) (day : Day) (ms : List Move) where
-  abbrev paces : ℕ → ℕ
-  paces = paceFor pace ms
+  abbrev paceOf : ℕ → ℕ
+  paceOf = paceFor pace ms
 
   module _ (i m : ℕ) (h : OfDay day i) where
     abbrev next : Start
     next = record { row = i; minute = m }
 
     pub worst-told : worstAt (d opening pace day ms) i m ≡
-        worstOf (map (latenessOfStart opening day paces) (startsAmong ms ++ (next ∷ [])))
+        worstOf (map (latenessOfStart opening day paceOf) (startsAmong ms ++ (next ∷ [])))
     worst-told =
         rw (job-held opening pace day ms i h)
         (Option·some-injective _ _
-        (sym (worst-on opening day paces (startsAmong ms) next) ∙ worst-some opening day paces (startsAmong ms) next))
+        (sym (worst-on opening day paceOf (startsAmong ms) next) ∙ worst-some opening day paceOf (startsAmong ms) next))
 
-    pub end-told : endAt (d opening pace day ms) i m ≡ endOfStart opening day paces next
+    pub end-told : endAt (d opening pace day ms) i m ≡ endOfStart opening day paceOf next
     end-told = rw (job-held opening pace day ms i h)
 
     -- A desk after moves, and the row i started on it at the minute m.
@@ -303,40 +303,40 @@ module _ (opening pace : ℕ) (day : Day) (ms : List Move) where
         (λ x. by (λ k. pace-start pace ms next k x) (starts-on ms next x)) ∙
         rw (
           left-on (startsAmong ms) next 1 (length (day .rows)),
-          minute-on opening day paces (day .free) (startsAmong ms) next,
-          worst-on opening day paces (startsAmong ms) next,
+          minute-on opening day paceOf (day .free) (startsAmong ms) next,
+          worst-on opening day paceOf (startsAmong ms) next,
           job-held opening pace day ms i h,
         )
       where
         by : (ℕ → ℕ) → List Start → Running
-        by paces done = record {
+        by paceOf done = record {
           opening = opening;
-          rows = map (jobRead opening day paces) (rowNumbers day);
+          rows = map (jobRead opening day paceOf) (rowNumbers day);
           pages = pagesOf day;
           left = notTaken done (rowNumbers day);
-          minute = minuteAfter opening day paces (day .free) done;
-          worst = worstSoFar opening day paces done;
+          minute = minuteAfter opening day paceOf (day .free) done;
+          worst = worstSoFar opening day paceOf done;
         }
 
 -- # One change of pace more
--- Starts whose rows are read at the same paces end and are late alike.
-module _ (opening : ℕ) (day : Day) (paces other : ℕ → ℕ) where
-  minute-same : (t : ℕ) (done : List Start) → ((s : Start) → List·Memᴰ s done → paces (s .row) ≡ other (s .row)) →
-      minuteAfter opening day paces t done ≡ minuteAfter opening day other t done
+-- Starts whose rows are read at the same paceOf end and are late alike.
+module _ (opening : ℕ) (day : Day) (paceOf other : ℕ → ℕ) where
+  minute-same : (t : ℕ) (done : List Start) → ((s : Start) → List·Memᴰ s done → paceOf (s .row) ≡ other (s .row)) →
+      minuteAfter opening day paceOf t done ≡ minuteAfter opening day other t done
   unfolding minuteAfter
   minute-same t [] same = refl
   minute-same t (s ∷ ss) same =
-      ap (λ (p : ℕ). minuteAfter opening day paces (s .minute + (opening + lengthOf (row (day .rows) (s .row) .pages) p)) ss)
+      ap (λ (p : ℕ). minuteAfter opening day paceOf (s .minute + (opening + lengthOf (row (day .rows) (s .row) .pages) p)) ss)
       (same s (List·Memᴰ·head refl)) ∙
       minute-same (endOfStart opening day other s) ss (λ r m. same r (List·Memᴰ·tail m))
 
-  worst-same : (done : List Start) → ((s : Start) → List·Memᴰ s done → paces (s .row) ≡ other (s .row)) →
-      worstSoFar opening day paces done ≡ worstSoFar opening day other done
+  worst-same : (done : List Start) → ((s : Start) → List·Memᴰ s done → paceOf (s .row) ≡ other (s .row)) →
+      worstSoFar opening day paceOf done ≡ worstSoFar opening day other done
   unfolding worstSoFar
   worst-same [] same = refl
   worst-same (s ∷ ss) same =
       ap {B = Option ℤ} (λ ys. some (worstOf ys))
-      (map-same (latenessOfStart opening day paces) (latenessOfStart opening day other) (s ∷ ss) (λ r m.
+      (map-same (latenessOfStart opening day paceOf) (latenessOfStart opening day other) (s ∷ ss) (λ r m.
       ap (λ (p : ℕ). subℕ (r .minute + (opening + lengthOf (row (day .rows) (r .row) .pages) p)) (row (day .rows) (r .row) .due))
       (same r m)))
 

@@ -107,11 +107,11 @@ paceFor pace [] i = pace
 paceFor pace (started s ∷ ms) i = cond (eqb i (s .row)) pace (paceFor pace ms i)
 paceFor pace (changed p ∷ ms) i = paceFor p ms i
 
--- Where each row number is read at its pace:
-module _ (opening : ℕ) (day : Day) (paces : ℕ → ℕ) where
+-- Where row i is read at the pace `paceOf i`:
+module _ (opening : ℕ) (day : Day) (paceOf : ℕ → ℕ) where
   -- A row's length comes from its pages, to the nearest minute. Its release and due are the book's, be it a class due or not.
   abbrev pub lengthRead : ℕ → ℕ
-  lengthRead i = lengthOf (row (day .rows) i .pages) (paces i)
+  lengthRead i = lengthOf (row (day .rows) i .pages) (paceOf i)
 
   abbrev pub jobRead : ℕ → Job
   jobRead i = record { release = row (day .rows) i .release; length = opening + lengthRead i; due = row (day .rows) i .due }

@@ -89,9 +89,9 @@ module _ (opening pace : ℕ) (day : Day) (opened : List ℕ) (calls : List Call
     -- of its own and of those before it. Where the desk's minute is past 20,000,000, none is accepted.
     pub start-refused : (i m n p : ℕ) → Refuses (deskStart here i m .answer) n p ↔ StartTurned deskNow i m n p
     pub start-moves : (s : Start) → deskStart here (s .row) (s .minute) .answer .number ≡ 0 →
-        let paces = paceFor pace moves in
+        let paceOf = paceFor pace moves in
         deskStart here (s .row) (s .minute) .answer ≡
-        saidMoved (endOfStart opening day paces s) (worstOf (map (latenessOfStart opening day paces) (startsAmong moves ++ (s ∷ []))))
+        saidMoved (endOfStart opening day paceOf s) (worstOf (map (latenessOfStart opening day paceOf) (startsAmong moves ++ (s ∷ []))))
     pub none-past : latestStart < planned .minute → (i m : ℕ) → ¬ (deskStart here i m .answer .number ≡ 0)
     -- The next change of pace is refused exactly so; with one row left or none, only for a pace outside 4 to 120. Otherwise it says nothing
     -- more. The pace in force, told again, is accepted and changes no word.
