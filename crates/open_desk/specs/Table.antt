@@ -4,13 +4,14 @@ use Prim.Native.Nat.{ℕ, _+_, _*_, _≤_, _<_}
 use mathlib.Core.List.{List, List·Memᴰ}
 use mathlib.Core.Logic.{_⊎_}
 use lib.ListN.{length}
-use lib.IntN.{ℤ, subℕ}
-use lib.Signed.{_<ℤ_}
 use Rattle.schedule.specs.Limits.{latestStart, latestEnd, longestTime, leastPace, mostPace}
+use Rattle.schedule.specs.declared.Row.{Row}
+use Rattle.schedule.specs.declared.Class.the-variants.{None}
 use Rattle.schedule.specs.Cover.{Agreeing}
 use Rattle.refusals.specs.Refusals.{byRange, byDisorder, byNarrow, byUnlisted, byDone, byEarly}
 use Rattle.pairs.specs.Pairs.{numberWord}
 use Rattle.row_reader.specs.NearestMinute.{lengthOf}
+use Rattle.promises.specs.Vocabulary.{Disagree}
 use Rattle.running.specs.Running.{Running, jobIn, pagesIn}
 use Rattle.running.specs.Words.{deskWords, running, IsDesk}
 
@@ -25,20 +26,21 @@ pub data StartTurned (d : Running) (i m : ℕ) : (n p : ℕ) → Type 0 where
   early : 1 ≤ i → i ≤ length (d .rows) → List·Memᴰ i (d .left) →
       (m < d .minute) ⊎ (m < jobIn (d .rows) i .release) ⊎ (latestStart < m) → StartTurned d i m byEarly 0
 
--- The due of a row, and its spare by a pace: due minus release minus the length that its pages then have, signed. Two rows disagree by the
--- pace if one has the smaller due and also the smaller spare.
+-- A row as a reader of this pace takes it: its release and due are what they were, its length is that of its pages. (Number and class are
+-- not looked at.) Two rows disagree by the pace if they then do, as two rows of a book.
 module _ (d : Running) (pace : ℕ) where
-  abbrev pub dueOf : ℕ → ℕ
-  dueOf i = jobIn (d .rows) i .due
-
-  abbrev pub spareBy : ℕ → ℤ
-  spareBy i = subℕ (dueOf i) (jobIn (d .rows) i .release + lengthOf (pagesIn (d .pages) i) pace)
-
-  abbrev pub TighterBy : ℕ → ℕ → Type 0
-  TighterBy i j = (dueOf i < dueOf j) × (spareBy i <ℤ spareBy j)
+  abbrev pub rowByPace : ℕ → Row
+  rowByPace i = record {
+    number = 0;
+    release = jobIn (d .rows) i .release;
+    length = lengthOf (pagesIn (d .pages) i) pace;
+    due = jobIn (d .rows) i .due;
+    class = None;
+    pages = pagesIn (d .pages) i;
+  }
 
   abbrev pub DisagreeBy : ℕ → ℕ → Type 0
-  DisagreeBy i j = TighterBy i j ⊎ TighterBy j i
+  DisagreeBy i j = Disagree (rowByPace i) (rowByPace j)
 
   -- Row k is the earliest row left that disagrees with a row left above it. Rows done are not looked at.
   pub record EarliestLeft (k : ℕ) : Type 0 where
