@@ -14,7 +14,7 @@ use Rattle.schedule.specs.Limits.{mostRows}
 use Rattle.schedule.specs.declared.Row.{Row}
 use Rattle.schedule.specs.Rows.{noRow, row, Day, jobs, countFrom}
 use Rattle.schedule.specs.Columns.{at}
-use Rattle.schedule.proofs.Numbers.{from-mem, length-count}
+use Rattle.schedule.proofs.Numbers.{from-mem, length-count, count-last}
 use Rattle.schedule.proofs.Filling.{mapped-at}
 use Rattle.rows.proofs.Laid.{releaseOf, dueOf}
 use Rattle.readers.specs.Reads.{orderingRule}
@@ -158,13 +158,6 @@ module _ (opening : ℕ) (day : Day) (few : length (day .rows) ≤ mostRows) whe
   page-at i h g = past-dues (pages + i) (omega arith) ∙ column-at pagesOfRow pages rows (withHead opening day) pages-room i h g
 
 -- Every row is left where no mark stands.
-count-last : (k n : ℕ) → countFrom k (suc n) ≡ countFrom k n ++ ((k + n) ∷ [])
-unfolding countFrom
-count-last k zero = let e : k ≡ k + 0 = omega arith in ap {B = List ℕ} (λ (i : ℕ). i ∷ []) e
-count-last k (suc n) =
-    let e : suc k + n ≡ k + suc n = omega arith in
-    ap (λ (l : List ℕ). k ∷ l) (count-last (suc k) n ∙ ap (λ (i : ℕ). countFrom (suc k) n ++ (i ∷ [])) e)
-
 all-left : (ws : List ℕ) (n : ℕ) → ((i : ℕ) → 1 ≤ i → i ≤ n → at ws (marks + i) ≡ 0) → leftTo ws n ≡ countFrom 1 n
 unfolding leftTo countFrom
 all-left ws zero h = refl

@@ -61,3 +61,7 @@ byDone = 14
 -- 15, early: the minute of a start is before the desk's minute or the release, or past 20,000,000.
 abbrev pub byEarly : ℕ
 byEarly = 15
+
+-- 16, overtime: no orders of the desks keep the overtime limit.
+abbrev pub byOvertime : ℕ
+byOvertime = 16

@@ -39,6 +39,8 @@ impl Tested {
     pub const DONE: u32 = 14;
 
     pub const EARLY: u32 = 15;
+
+    pub const OVERTIME: u32 = 16;
 }
 
 // One test: where it is true, the refusal.

@@ -1,11 +1,11 @@
--- The numbers of all rows: how many there are, which, and that each stands once.
+-- The numbers of all rows: how many there are, which, that each stands once, and the last.
 -- Assumes nothing.
 use Prim.Native.Nat.{ℕ, zero, suc, _+_, _≤_, _<_}
 use native.Mathlib.Omega.{arith}
 use native.Mathlib.Decide.{ℕ-discrete}
 use mathlib.Core.Bool.{Bool, true, false}
-use mathlib.Core.Path.{_≡_, refl, ap}
-use mathlib.Core.List.{_∷_, List·Memᴰ, List·Memᴰ·head, List·Memᴰ·tail, List·Memᴰ·not-nil, List·Memᴰ·cases-cons}
+use mathlib.Core.Path.{_≡_, refl, ap, _∙_}
+use mathlib.Core.List.{List, [], _∷_, _++_, List·Memᴰ, List·Memᴰ·head, List·Memᴰ·tail, List·Memᴰ·not-nil, List·Memᴰ·cases-cons}
 use mathlib.Core.Logic.{_⊎_, inl, inr}
 use lib.Dec.{T, eqb, eqb→eq}
 use lib.ListN.{length}
@@ -54,3 +54,10 @@ from-mem k i (suc n) h l = step (ℕ-discrete k i) (λ g. from-mem k (suc i) n g
     step : Dec (k ≡ i) → (suc i ≤ k → List·Memᴰ k (countFrom (suc i) n)) → List·Memᴰ k (i ∷ countFrom (suc i) n)
     step (yes e) f = List·Memᴰ·head e
     step (no e) f = List·Memᴰ·tail (f (omega arith))
+
+pub count-last : (k n : ℕ) → countFrom k (suc n) ≡ countFrom k n ++ ((k + n) ∷ [])
+unfolding countFrom
+count-last k zero = let e : k ≡ k + 0 = omega arith in ap {B = List ℕ} (λ (i : ℕ). i ∷ []) e
+count-last k (suc n) =
+    let e : suc k + n ≡ k + suc n = omega arith in
+    ap (λ (l : List ℕ). k ∷ l) (count-last (suc k) n ∙ ap (λ (i : ℕ). countFrom (suc k) n ++ (i ∷ [])) e)

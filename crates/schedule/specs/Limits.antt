@@ -1,4 +1,4 @@
--- The limits of a book, and those of the search: by name, once.
+-- The limits of a book, of the search and of several desks: by name, once.
 -- Rests on nothing.
 use Prim.Native.Nat.{ℕ, _+_, _*_, _≤_}
 use lib.IntN.{ℤ, negsuc}
@@ -59,6 +59,16 @@ latestEnd = 27687680
 -- The latest lateness, that of the latest end and the due 0, raised by 2^31 as the machine holds it.
 abbrev pub latestRaised : ℕ
 latestRaised = 2147483648 + latestEnd
+
+-- The most desks that are planned together, the latest closing minute, and the largest overtime limit.
+abbrev pub mostDesks : ℕ
+mostDesks = 8
+
+abbrev pub latestClosing : ℕ
+latestClosing = 20000000
+
+abbrev pub largestLimit : ℕ
+largestLimit = 200000000
 
 -- A desk at the minute t with n rows left: it ends by the latest end.
 abbrev pub EndsInTime : ℕ → ℕ → Type 0

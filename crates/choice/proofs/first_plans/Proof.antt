@@ -1,0 +1,180 @@
+-- `first_plans` meets its contract: each turn takes the first plan of one desk more. Assumes nothing.
+use Prim.Native.Nat.{_-_, _<_}
+use native.Mathlib.Omega.{arith}
+use borrow.Author.Needs.{needs}
+use mathlib.Core.Path.{sym, _∙_}
+use lib.ListN.{length}
+use Rattle.schedule.specs.Limits.{mostRows}
+use Rattle.schedule.specs.Columns.{at}
+use Rattle.choice.proofs.Taking.{Taking, taking-none, taking-more, taken-all, none-within, inside}
+use Rattle.choice.proofs.first_plans.Statement.{statement}
+use Rattle.choice.proofs.first_plans.Tie as tie
+
+abbrev Inv-loop : tie.InvT-loop
+Inv-loop plans fronts closings bound cursors₀ late₀ sum₀ d₀ cursors late sum d = Taking plans fronts closings bound cursors late sum d
+
+abbrev μ-loop : tie.MeasureT-loop
+μ-loop plans fronts closings bound cursors₀ late₀ sum₀ d₀ cursors late sum d = length closings - d
+
+loop-holds : tie.Need-loop-holds Inv-loop μ-loop
+loop-holds c = taking-none _ _ _ _ _ (c .before .pre .3)
+
+mul-count : tie.Need-mul-count Inv-loop μ-loop
+mul-count c = search needs
+
+element-copy-out-count : tie.Need-element-copy-out-count Inv-loop μ-loop
+element-copy-out-count c = search needs
+
+mul-past : tie.Need-mul-past Inv-loop μ-loop
+mul-past c = search needs
+
+add-past : tie.Need-add-past Inv-loop μ-loop
+add-past c = search needs
+
+mul-past-2 : tie.Need-mul-past-2 Inv-loop μ-loop
+mul-past-2 c = search needs
+
+index-1-past : tie.Need-index-1-past Inv-loop μ-loop
+index-1-past c = search needs
+
+mul-past-3 : tie.Need-mul-past-3 Inv-loop μ-loop
+mul-past-3 c = search needs
+
+element-copy-out-past : tie.Need-element-copy-out-past Inv-loop μ-loop
+element-copy-out-past c = search needs
+
+past-requires : tie.Need-past-requires Inv-loop μ-loop
+past-requires c κs =
+    let l = c .before .before .before .before .before .before .pre .2 (c .before .before .before .before .loop .d) (omega arith) in
+    (l .few, l .late-places, c .before .before .before .before .loop .inv .behind .behind (c .before .before .before .before .loop .d) (omega arith))
+
+returns : tie.Need-returns Inv-loop μ-loop
+returns c =
+    let a = c .before .before .before .before .before .before .before .before .args in
+    (none-within (a .plans .now) (a .fronts .now) (a .closings .now) (a .bound) (c .before .before .before .before .before .before .before .before .pre .2) (c .before .before .before .before .before .before .loop .d) (omega arith) (sym (c .before .past .ensures) ∙ c .if1 .taken), c .before .before .before .before .before .before .loop .inv .behind)
+
+-- The place that was found is that of a plan.
+chosen : (c : tie.Else1 Inv-loop μ-loop) →
+    let k = c .before .past .result in
+    let a = c .before .before .before .before .before .before .before .before .args in
+    (k < at (a .plans .now) (c .before .before .before .before .before .before .loop .d)) × (k < mostRows)
+chosen c =
+    let a = c .before .before .before .before .before .before .before .before .args in
+    inside (a .plans .now) (a .fronts .now) (a .closings .now) (a .bound) (c .before .before .before .before .before .before .before .before .pre .2)
+    (c .before .before .before .before .before .before .loop .d) (omega arith) _ (c .before .past .ensures) (c .if1 .left)
+
+mul-cursors : tie.Need-mul-cursors Inv-loop μ-loop
+mul-cursors c = search needs
+
+element-write-cursors : tie.Need-element-write-cursors Inv-loop μ-loop
+element-write-cursors c = search needs
+
+mul-greater : tie.Need-mul-greater Inv-loop μ-loop
+mul-greater c = search needs
+
+add-greater : tie.Need-add-greater Inv-loop μ-loop
+add-greater c = search needs
+
+mul-greater-2 : tie.Need-mul-greater-2 Inv-loop μ-loop
+mul-greater-2 c = search needs
+
+mul-greater-3 : tie.Need-mul-greater-3 Inv-loop μ-loop
+mul-greater-3 c = let k = chosen c in record { fits = omega (arith, k .1) }
+
+index-1-greater : tie.Need-index-1-greater Inv-loop μ-loop
+index-1-greater c = search needs
+
+index-2-greater : tie.Need-index-2-greater Inv-loop μ-loop
+index-2-greater c = chosen c .1
+
+greater-requires : tie.Need-greater-requires Inv-loop μ-loop
+greater-requires c κs = search needs
+
+mul-over : tie.Need-mul-over Inv-loop μ-loop
+mul-over c = search needs
+
+mul-over-2 : tie.Need-mul-over-2 Inv-loop μ-loop
+mul-over-2 c = search needs
+
+mul-over-3 : tie.Need-mul-over-3 Inv-loop μ-loop
+mul-over-3 c = let k = chosen (c .before .before) in record { fits = omega (arith, k .1) }
+
+index-1-over : tie.Need-index-1-over Inv-loop μ-loop
+index-1-over c = search needs
+
+index-2-over : tie.Need-index-2-over Inv-loop μ-loop
+index-2-over c = chosen (c .before .before) .1
+
+mul-over-4 : tie.Need-mul-over-4 Inv-loop μ-loop
+mul-over-4 c = search needs
+
+shared-slice-read-over : tie.Need-shared-slice-read-over Inv-loop μ-loop
+shared-slice-read-over c = search needs
+
+over-requires : tie.Need-over-requires Inv-loop μ-loop
+over-requires c κs = search needs
+
+cast-sum : tie.Need-cast-sum Inv-loop μ-loop
+cast-sum c = search needs
+
+add-sum : tie.Need-add-sum Inv-loop μ-loop
+add-sum c = search needs
+
+add-d : tie.Need-add-d Inv-loop μ-loop
+add-d c = search needs
+
+loop-less : tie.Need-loop-less Inv-loop μ-loop
+loop-less c = search needs
+
+loop-again : tie.Need-loop-again Inv-loop μ-loop
+loop-again c =
+    let a = c .before .before .before .before .before .before .before .before .before .before .before .before .before .args in
+    taking-more (a .plans .now) (a .fronts .now) (a .closings .now) (a .bound) (c .before .before .before .before .before .before .before .before .before .before .before .before .before .pre .2) _ _ _ _ (c .before .before .before .before .before .before .before .before .before .before .before .loop .inv) (omega arith) (omega arith) _
+    (c .before .before .before .before .before .before .past .ensures) (chosen (c .before .before .before .before .before) .0) _ _
+    (c .before .before .before .greater .ensures) (c .over .ensures) (omega arith)
+
+returns-2 : tie.Need-returns-2 Inv-loop μ-loop
+returns-2 c =
+    let a = c .before .before .before .args in
+    (taken-all (a .plans .now) (a .fronts .now) (a .closings .now) (a .bound) (c .before .before .before .pre .2) _ _ _ _ (c .before .loop .inv) (omega arith) (omega arith), c .before .loop .inv .behind)
+
+pub first-plans-spec : {M : Type 1} → statement M
+first-plans-spec =
+    tie.close
+    (tie.spec
+    Inv-loop
+    μ-loop
+    loop-holds
+    mul-count
+    element-copy-out-count
+    mul-past
+    add-past
+    mul-past-2
+    index-1-past
+    mul-past-3
+    element-copy-out-past
+    past-requires
+    returns
+    mul-cursors
+    element-write-cursors
+    mul-greater
+    add-greater
+    mul-greater-2
+    mul-greater-3
+    index-1-greater
+    index-2-greater
+    greater-requires
+    mul-over
+    mul-over-2
+    mul-over-3
+    index-1-over
+    index-2-over
+    mul-over-4
+    shared-slice-read-over
+    over-requires
+    cast-sum
+    add-sum
+    add-d
+    loop-less
+    loop-again
+    returns-2)

@@ -1,0 +1,3 @@
+pub mod Firsts
+pub mod Least
+pub mod Best
