@@ -51,10 +51,10 @@ module _ (terms : Terms) (book : List ℕ) (r : Given) (day : Day) (reads : read
   a : AcceptedDay terms day
   a = accepted-day terms book day reads
 
-  same : (i : ℕ) → List·Memᴰ i (countFrom 1 (r .count)) → job i ≡ seen i
+  pub same : (i : ℕ) → List·Memᴰ i (countFrom 1 (r .count)) → job i ≡ seen i
   same i m = let c = count-range 1 (r .count) m in columns .jobs i (c .0) (omega arith)
 
-  plannable : Plannable (terms .profile) job (r .free) (r .count)
+  pub plannable : Plannable (terms .profile) job (r .free) (r .count)
   plannable =
       let within = columns .within latestMinute longestTime latestDue
       (λ i h k. let l = a .limits i in (l .0, omega (arith, l .1, a .opening), l .2)) in

@@ -12,7 +12,7 @@ use lib.ListN.{length, length-map, take, getD, replicate, length-replicate, getD
 use lib.Seq.{length-take-le, getD-take}
 use lib.IntN.{ℤ, predℤ}
 use borrow.Author.Tests.{lt-leb}
-use Rattle.schedule.specs.Limits.{mostDesks, latestRaised}
+use Rattle.schedule.specs.Limits.{mostDesks}
 use Rattle.schedule.specs.Rows.{countFrom}
 use Rattle.schedule.specs.Desk.{Pair}
 use Rattle.schedule.specs.Offset.{raised, lowered}
@@ -49,7 +49,7 @@ pub record Raised (z : ℤ) : Type 0 where
   pub number : ℕ
   pub is : z ≡ lowered number
   pub low : 1 ≤ number
-  pub high : number ≤ latestRaised
+  pub high : number ≤ 4294967295
 
 at-raised : (count : ℕ) (ends lates : List ℕ) → ListedAt count ends lates → {z : ℤ} →
     List·Memᴰ z (map (λ (p : Pair). p .late) (pairsOf (take count ends) (take count lates))) → Raised z

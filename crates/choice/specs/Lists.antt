@@ -7,7 +7,7 @@ use mathlib.Core.List.{List, [], _∷_, map}
 use mathlib.Core.Option.{Option, none, some}
 use lib.Dec.{leb}
 use lib.ListN.{length, getD, take}
-use Rattle.schedule.specs.Limits.{mostRows, mostDesks, latestRaised}
+use Rattle.schedule.specs.Limits.{mostRows, mostDesks}
 use Rattle.schedule.specs.Rows.{countFrom}
 use Rattle.schedule.specs.Desk.{Pair}
 use Rattle.schedule.specs.Cover.{Rising}
@@ -36,13 +36,13 @@ unfoldable pub placeWithin : (bound : ℕ) → List ℕ → ℕ
 placeWithin bound [] = 0
 placeWithin bound (l ∷ ls) = cond (leb l bound) 0 (suc (placeWithin bound ls))
 
--- The lists of m desks: each has room, rises, and its latenesses are in range.
+-- The lists of m desks: each has room, rises, and its raised latenesses are 32-bit numbers from 1 on.
 pub record ListedAt (count : ℕ) (ends lates : List ℕ) : Type 0 where
   pub few : count ≤ mostRows
   pub end-places : length ends ≡ mostRows
   pub late-places : length lates ≡ mostRows
   pub rising : Rising (pairsOf (take count ends) (take count lates))
-  pub ranged : (k : ℕ) → k < count → (1 ≤ at lates k) × (at lates k ≤ latestRaised)
+  pub ranged : (k : ℕ) → k < count → (1 ≤ at lates k) × (at lates k ≤ 4294967295)
 
 abbrev pub Listed : (plans : List ℕ) (fronts : List (List ℕ)) (m : ℕ) → Type 0
 Listed plans fronts m = (e : ℕ) → e < m → ListedAt (at plans e) (endsAt fronts e) (latesAt fronts e)

@@ -8,15 +8,22 @@ ghost use Rattle.overtime.specs.Choices.{overtime, firstPlans};
 ghost use Rattle.choice.specs.Lists.{placeWithin, takenOf, bestOf, listsIn, Listed, Behind};
 use schedule::Desk;
 
-// The limits of several desks.
+// The limits of several desks, and the columns that hold what is read of them.
 pub struct Desks {}
 
 impl Desks {
-    // The most desks, and the columns of their lists: those of desk d, counted from 0, are columns 2 * d, its ends, and 2 * d + 1, its
-    // latenesses.
     pub const MOST: usize = 8;
 
+    // The latest closing minute, and the largest overtime limit.
+    pub const CLOSING: u32 = 20_000_000;
+
+    pub const LIMIT: u32 = 200_000_000;
+
+    // The columns of their lists: desk d, counted from 0, has its ends in column 2 * d and its latenesses in the next.
     pub const FRONTS: usize = 16;
+
+    // The columns of their rows: desk d has its releases in column 3 * d, the times at the desk and the dues in the next two.
+    pub const COLUMNS: usize = 24;
 }
 
 // A plan for each desk: their greatest lateness, and their overtimes added up; or some desk has none.

@@ -1,0 +1,4 @@
+pub mod Sums
+pub mod Slots
+pub mod Reading
+pub mod Desks

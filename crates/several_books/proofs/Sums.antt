@@ -1,0 +1,91 @@
+-- Lengths added up and closing minutes tested, one after another; and what is lent amiss, test by test.
+-- Assumes nothing.
+use Prim.Native.Nat.{ℕ, suc, _+_, _≤_, _<_}
+use native.Mathlib.Omega.{arith}
+use native.Mathlib.Numerals.{add-one}
+use mathlib.Core.Bool.{Bool, true, false, not, _&&_, _||_}
+use mathlib.Core.Path.{_≡_, refl, sym, ap, _∙_}
+use mathlib.Core.List.{List, []}
+use lib.Dec.{leb, eqb}
+use lib.ListN.{length, drop, getD}
+use lib.Seq.{drop-cons, drop-length}
+use borrow.Author.Tests.{lt-leb, le-leb, lt-ltb, le-ltb, eq-eqb, ne-eqb}
+use Rattle.schedule.specs.Limits.{mostOpening, mostDesks, latestClosing, largestLimit}
+use Rattle.schedule.specs.Columns.{at}
+use Rattle.several_books.specs.Lent.{total, allOpen, lentAmiss}
+
+-- From the place d on.
+module _ (xs : List ℕ) (d : ℕ) where
+  pub total-next : d < length xs → total (drop d xs) ≡ at xs d + total (drop (d + 1) xs)
+  unfolding total
+  total-next h = rw (add-one d) (ap total (drop-cons xs d 0 h))
+
+  pub total-end : d ≡ length xs → total (drop d xs) ≡ 0
+  unfolding total
+  total-end e = ap total (ap (λ (n : ℕ). drop n xs) e ∙ drop-length xs)
+
+  open-step : d < length xs → allOpen (drop d xs) ≡ (leb (at xs d) latestClosing && allOpen (drop (d + 1) xs))
+  unfolding allOpen
+  open-step h = rw (add-one d) (ap allOpen (drop-cons xs d 0 h))
+
+  pub open-next : d < length xs → at xs d ≤ latestClosing → allOpen (drop d xs) ≡ allOpen (drop (d + 1) xs)
+  open-next h k = open-step h ∙ rw (le-leb (at xs d) latestClosing k) refl
+
+  pub open-not : d < length xs → latestClosing < at xs d → allOpen (drop d xs) ≡ false
+  open-not h k = open-step h ∙ rw (lt-leb (at xs d) latestClosing k) refl
+
+  pub open-end : d ≡ length xs → allOpen (drop d xs) ≡ true
+  unfolding allOpen
+  open-end e = ap allOpen (ap (λ (n : ℕ). drop n xs) e ∙ drop-length xs)
+
+module _ (opening run : ℕ) (lengths closings : List ℕ) (limit : ℕ) where
+  abbrev amiss : Bool
+  amiss = lentAmiss opening run lengths closings limit
+
+  pub by-opening : mostOpening < opening → true ≡ amiss
+  unfolding lentAmiss
+  by-opening h = simp (lt-ltb mostOpening opening h)
+
+  module _ (o : opening ≤ mostOpening) where
+    pub by-limit : largestLimit < limit → true ≡ amiss
+    unfolding lentAmiss
+    by-limit h = simp (le-ltb mostOpening opening o, lt-ltb largestLimit limit h)
+
+    module _ (l : limit ≤ largestLimit) where
+      pub by-none : length lengths ≡ 0 → true ≡ amiss
+      unfolding lentAmiss
+      by-none h = simp (le-ltb mostOpening opening o, le-ltb largestLimit limit l, eq-eqb (length lengths) 0 h)
+
+      module _ (s : ¬ (length lengths ≡ 0)) where
+        pub by-many : mostDesks < length lengths → true ≡ amiss
+        unfolding lentAmiss
+        by-many h = simp
+            (le-ltb mostOpening opening o, le-ltb largestLimit limit l, ne-eqb (length lengths) 0 s, lt-ltb mostDesks (length lengths) h)
+
+        module _ (f : length lengths ≤ mostDesks) where
+          pub by-count : ¬ (length closings ≡ length lengths) → true ≡ amiss
+          unfolding lentAmiss
+          by-count h = simp (
+            le-ltb mostOpening opening o,
+            le-ltb largestLimit limit l,
+            ne-eqb (length lengths) 0 s,
+            le-ltb mostDesks (length lengths) f,
+            ne-eqb (length closings) (length lengths) h,
+          )
+
+          module _ (e : length closings ≡ length lengths) where
+            rest : amiss ≡ (not (allOpen closings) || not (eqb (total lengths) run))
+            unfolding lentAmiss
+            rest = simp (
+              le-ltb mostOpening opening o,
+              le-ltb largestLimit limit l,
+              ne-eqb (length lengths) 0 s,
+              le-ltb mostDesks (length lengths) f,
+              eq-eqb (length closings) (length lengths) e,
+            )
+
+            pub by-closing : not (allOpen closings) ≡ true → true ≡ amiss
+            by-closing h = sym (rest ∙ rw h refl)
+
+            pub by-sum : not (allOpen closings) ≡ false → not (eqb (total lengths) run) ≡ amiss
+            by-sum h = sym (rest ∙ rw h refl)
