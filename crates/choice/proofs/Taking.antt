@@ -117,6 +117,12 @@ overtimes-more [] (q ∷ ps) c p h = let z : ⊥ = omega arith in absurd z
 overtimes-more (d ∷ cs) [] c p h = let z : ⊥ = omega arith in absurd z
 overtimes-more (d ∷ cs) (q ∷ ps) c p h = omega (arith, overtimes-more cs ps c p (omega arith))
 
+pub map-last : {A : Type 0} (f : ℕ → A) (n : ℕ) → map f (countFrom 0 (suc n)) ≡ map f (countFrom 0 n) ++ (f n ∷ [])
+map-last {A} f n =
+    let z : 0 + n ≡ n = omega arith in
+    ap (map f) (count-last 0 n) ∙ map-append f (countFrom 0 n) ((0 + n) ∷ []) ∙
+    ap (λ (i : ℕ). map f (countFrom 0 n) ++ (f i ∷ [])) z
+
 module _ (plans : List ℕ) (fronts : List (List ℕ)) (closings : List ℕ) (bound : ℕ) where
   abbrev place : ℕ → ℕ
   place e = placeAt plans fronts bound e
@@ -190,9 +196,7 @@ module _ (plans : List ℕ) (fronts : List (List ℕ)) (closings : List ℕ) (bo
           worse ≡ max late (at (latesAt fronts d) (place d)) → more ≡ overtime (at (endsAt fronts d) (place d)) (at closings d) →
           more ≤ 4294967295 → Taking (set cursors d (place d)) worse (sum + more) (d + 1)
       taking-next h few k worse more w o small =
-          let z : 0 + d ≡ d = omega arith in
-          let f : firstsTo (suc d) ≡ firstsTo d ++ (firstAt d ∷ []) = ap (map firstAt) (count-last 0 d) ∙
-          map-append firstAt (countFrom 0 d) ((0 + d) ∷ []) ∙ ap (λ (i : ℕ). firstsTo d ++ (firstAt i ∷ [])) z in
+          let f : firstsTo (suc d) ≡ firstsTo d ++ (firstAt d ∷ []) = map-last firstAt d in
           let n : length (take d closings) ≡ length (firstsTo d) =
           length-take-le d closings (omega arith) ∙ sym (length-map (countFrom 0 d) firstAt ∙ length-count 0 d) in
           let x : overtimes (take (suc d) closings) (firstsTo (suc d)) ≡

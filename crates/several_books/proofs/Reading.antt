@@ -55,7 +55,7 @@ raised-most : (z : ℤ) → z ≤ℤ pos 2147483647 → raised z ≤ 4294967295
 raised-most (pos n) h = omega (arith, leZ→ (pos n) (pos 2147483647) (h .le))
 raised-most (negsuc n) h = omega arith
 
-at-mem : (ps : List Pair) (k : ℕ) (q : Pair) → k < length ps → List·Memᴰ (getD ps k q) ps
+pub at-mem : (ps : List Pair) (k : ℕ) (q : Pair) → k < length ps → List·Memᴰ (getD ps k q) ps
 at-mem [] k q h = let z : ⊥ = omega arith in absurd z
 at-mem (p ∷ ps) zero q h = List·Memᴰ·head refl
 at-mem (p ∷ ps) (suc k) q h = List·Memᴰ·tail (at-mem ps k q (omega arith))

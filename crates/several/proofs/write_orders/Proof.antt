@@ -1,0 +1,202 @@
+-- `write_orders` meets its contract.
+-- Assumes nothing.
+use native.Mathlib.Omega.{arith}
+use Prim.Native.Nat.{_-_, _<_}
+use lib.ListN.{length, length-take, length-drop}
+use borrow.Author.Needs.{needs}
+use Rattle.schedule.specs.Limits.{mostRows}
+use Rattle.several.proofs.Writing.{Written, written-none, written-more, written-all, same-room, room}
+use Rattle.several.proofs.write_orders.Statement.{statement}
+use Rattle.several.proofs.write_orders.Tie as tie
+
+abbrev Inv-loop : tie.InvT-loop
+Inv-loop free rows plans columns fronts desks bound result₀ at₀ d₀ result at d = Written free rows plans columns fronts bound desks result₀ result at d
+
+abbrev μ-loop : tie.MeasureT-loop
+μ-loop free rows plans columns fronts desks bound result₀ at₀ d₀ result at d = desks - d
+
+loop-holds : tie.Need-loop-holds Inv-loop μ-loop
+loop-holds c = written-none _ _ _ _ _ _ _ _
+
+mul-past : tie.Need-mul-past Inv-loop μ-loop
+mul-past c = search needs
+
+add-past : tie.Need-add-past Inv-loop μ-loop
+add-past c = search needs
+
+mul-past-2 : tie.Need-mul-past-2 Inv-loop μ-loop
+mul-past-2 c = search needs
+
+index-1-past : tie.Need-index-1-past Inv-loop μ-loop
+index-1-past c = search needs
+
+mul-past-3 : tie.Need-mul-past-3 Inv-loop μ-loop
+mul-past-3 c = search needs
+
+element-copy-out-past : tie.Need-element-copy-out-past Inv-loop μ-loop
+element-copy-out-past c = search needs
+
+past-requires : tie.Need-past-requires Inv-loop μ-loop
+past-requires c κs =
+    let l = c .before .before .before .before .before .pre .1 (c .before .before .before .loop .d) (omega arith) .0 .listed in
+    (l .few, l .late-places, omega arith)
+
+-- The place that was found is that of a plan.
+planned : (c : tie.After-past Inv-loop μ-loop) → c .past .result < mostRows
+planned c =
+    let t = c .before .before .before .before .before .before in
+    let p = t .pre .1 (c .before .before .before .before .loop .d) (omega arith) in
+    omega (arith, c .past .ensures, p .1, p .0 .listed .few)
+
+mul-late : tie.Need-mul-late Inv-loop μ-loop
+mul-late c = search needs
+
+add-late : tie.Need-add-late Inv-loop μ-loop
+add-late c = search needs
+
+mul-late-2 : tie.Need-mul-late-2 Inv-loop μ-loop
+mul-late-2 c = search needs
+
+mul-late-3 : tie.Need-mul-late-3 Inv-loop μ-loop
+mul-late-3 c = let k = planned c in record { fits = omega (arith, k) }
+
+index-1-late : tie.Need-index-1-late Inv-loop μ-loop
+index-1-late c = search needs
+
+index-2-late : tie.Need-index-2-late Inv-loop μ-loop
+index-2-late c = planned c
+
+mul-order-for : tie.Need-mul-order-for Inv-loop μ-loop
+mul-order-for c = search needs
+
+mul-order-for-2 : tie.Need-mul-order-for-2 Inv-loop μ-loop
+mul-order-for-2 c = search needs
+
+index-1-order-for : tie.Need-index-1-order-for Inv-loop μ-loop
+index-1-order-for c = search needs
+
+mul-order-for-3 : tie.Need-mul-order-for-3 Inv-loop μ-loop
+mul-order-for-3 c = search needs
+
+add-order-for : tie.Need-add-order-for Inv-loop μ-loop
+add-order-for c = search needs
+
+mul-order-for-4 : tie.Need-mul-order-for-4 Inv-loop μ-loop
+mul-order-for-4 c = search needs
+
+index-1-order-for-2 : tie.Need-index-1-order-for-2 Inv-loop μ-loop
+index-1-order-for-2 c = search needs
+
+mul-order-for-5 : tie.Need-mul-order-for-5 Inv-loop μ-loop
+mul-order-for-5 c = search needs
+
+add-order-for-2 : tie.Need-add-order-for-2 Inv-loop μ-loop
+add-order-for-2 c = search needs
+
+mul-order-for-6 : tie.Need-mul-order-for-6 Inv-loop μ-loop
+mul-order-for-6 c = search needs
+
+index-1-order-for-3 : tie.Need-index-1-order-for-3 Inv-loop μ-loop
+index-1-order-for-3 c = search needs
+
+mul-order-for-7 : tie.Need-mul-order-for-7 Inv-loop μ-loop
+mul-order-for-7 c = search needs
+
+element-copy-out-order-for : tie.Need-element-copy-out-order-for Inv-loop μ-loop
+element-copy-out-order-for c = search needs
+
+mul-order-for-8 : tie.Need-mul-order-for-8 Inv-loop μ-loop
+mul-order-for-8 c = search needs
+
+element-copy-out-order-for-2 : tie.Need-element-copy-out-order-for-2 Inv-loop μ-loop
+element-copy-out-order-for-2 c = search needs
+
+mul-order-for-9 : tie.Need-mul-order-for-9 Inv-loop μ-loop
+mul-order-for-9 c = let p = c .before .before .before .before .before .before .before .before .before .before .before .before .pre .1 (c .before .before .before .before .before .before .before .before .before .before .loop .d) (omega arith) .0 .plannable in let h : c .before .before .before .before .before .before .before .before .before .before .loop .at < length (c .before .before .before .before .before .before .before .before .before .before .before .before .args .result .now) = omega (arith, p .low, c .before .before .before .before .before .before .before .before .before .before .loop .inv .rows-so-far, (room (c .before .before .before .before .before .before .before .before .before .before .before .before .args .free .now) (c .before .before .before .before .before .before .before .before .before .before .before .before .args .rows .now) (c .before .before .before .before .before .before .before .before .before .before .before .before .args .plans .now) (c .before .before .before .before .before .before .before .before .before .before .before .before .args .columns .now) (c .before .before .before .before .before .before .before .before .before .before .before .before .args .fronts .now) (c .before .before .before .before .before .before .before .before .before .before .before .before .args .bound) (c .before .before .before .before .before .before .before .before .before .before .before .before .args .desks) (c .before .before .before .before .before .before .before .before .before .before .loop .d) (omega arith)), same-room (c .before .before .before .before .before .before .before .before .before .before .before .before .args .free .now) (c .before .before .before .before .before .before .before .before .before .before .before .before .args .rows .now) (c .before .before .before .before .before .before .before .before .before .before .before .before .args .plans .now) (c .before .before .before .before .before .before .before .before .before .before .before .before .args .columns .now) (c .before .before .before .before .before .before .before .before .before .before .before .before .args .fronts .now) (c .before .before .before .before .before .before .before .before .before .before .before .before .args .bound) (c .before .before .before .before .before .before .before .before .before .before .before .before .args .desks) _ _ _ _ (c .before .before .before .before .before .before .before .before .before .before .loop .inv) (c .before .before .before .before .before .before .before .before .before .before .before .before .pre .2), c .before .before .before .before .before .before .before .before .before .before .before .before .pre .2) in search needs
+
+sub-order-for : tie.Need-sub-order-for Inv-loop μ-loop
+sub-order-for c = omega (arith, c .before .before .before .before .before .before .before .before .before .before .loop .inv .rows-so-far, c .before .before .before .before .before .before .before .before .before .before .loop .inv .sized, (room (c .before .before .before .before .before .before .before .before .before .before .before .before .args .free .now) (c .before .before .before .before .before .before .before .before .before .before .before .before .args .rows .now) (c .before .before .before .before .before .before .before .before .before .before .before .before .args .plans .now) (c .before .before .before .before .before .before .before .before .before .before .before .before .args .columns .now) (c .before .before .before .before .before .before .before .before .before .before .before .before .args .fronts .now) (c .before .before .before .before .before .before .before .before .before .before .before .before .args .bound) (c .before .before .before .before .before .before .before .before .before .before .before .before .args .desks) (c .before .before .before .before .before .before .before .before .before .before .loop .d) (omega arith)), same-room (c .before .before .before .before .before .before .before .before .before .before .before .before .args .free .now) (c .before .before .before .before .before .before .before .before .before .before .before .before .args .rows .now) (c .before .before .before .before .before .before .before .before .before .before .before .before .args .plans .now) (c .before .before .before .before .before .before .before .before .before .before .before .before .args .columns .now) (c .before .before .before .before .before .before .before .before .before .before .before .before .args .fronts .now) (c .before .before .before .before .before .before .before .before .before .before .before .before .args .bound) (c .before .before .before .before .before .before .before .before .before .before .before .before .args .desks) _ _ _ _ (c .before .before .before .before .before .before .before .before .before .before .loop .inv) (c .before .before .before .before .before .before .before .before .before .before .before .before .pre .2), c .before .before .before .before .before .before .before .before .before .before .before .before .pre .2)
+
+part-order-for-start : tie.Need-part-order-for-start Inv-loop μ-loop
+part-order-for-start c = omega (arith, c .before .before .before .before .before .before .before .before .before .before .loop .inv .rows-so-far, c .before .before .before .before .before .before .before .before .before .before .loop .inv .sized, (room (c .before .before .before .before .before .before .before .before .before .before .before .before .args .free .now) (c .before .before .before .before .before .before .before .before .before .before .before .before .args .rows .now) (c .before .before .before .before .before .before .before .before .before .before .before .before .args .plans .now) (c .before .before .before .before .before .before .before .before .before .before .before .before .args .columns .now) (c .before .before .before .before .before .before .before .before .before .before .before .before .args .fronts .now) (c .before .before .before .before .before .before .before .before .before .before .before .before .args .bound) (c .before .before .before .before .before .before .before .before .before .before .before .before .args .desks) (c .before .before .before .before .before .before .before .before .before .before .loop .d) (omega arith)), same-room (c .before .before .before .before .before .before .before .before .before .before .before .before .args .free .now) (c .before .before .before .before .before .before .before .before .before .before .before .before .args .rows .now) (c .before .before .before .before .before .before .before .before .before .before .before .before .args .plans .now) (c .before .before .before .before .before .before .before .before .before .before .before .before .args .columns .now) (c .before .before .before .before .before .before .before .before .before .before .before .before .args .fronts .now) (c .before .before .before .before .before .before .before .before .before .before .before .before .args .bound) (c .before .before .before .before .before .before .before .before .before .before .before .before .args .desks) _ _ _ _ (c .before .before .before .before .before .before .before .before .before .before .loop .inv) (c .before .before .before .before .before .before .before .before .before .before .before .before .pre .2), c .before .before .before .before .before .before .before .before .before .before .before .before .pre .2)
+
+part-order-for-end : tie.Need-part-order-for-end Inv-loop μ-loop
+part-order-for-end c = omega (arith, c .before .before .before .before .before .before .before .before .before .before .loop .inv .rows-so-far, c .before .before .before .before .before .before .before .before .before .before .loop .inv .sized, (room (c .before .before .before .before .before .before .before .before .before .before .before .before .args .free .now) (c .before .before .before .before .before .before .before .before .before .before .before .before .args .rows .now) (c .before .before .before .before .before .before .before .before .before .before .before .before .args .plans .now) (c .before .before .before .before .before .before .before .before .before .before .before .before .args .columns .now) (c .before .before .before .before .before .before .before .before .before .before .before .before .args .fronts .now) (c .before .before .before .before .before .before .before .before .before .before .before .before .args .bound) (c .before .before .before .before .before .before .before .before .before .before .before .before .args .desks) (c .before .before .before .before .before .before .before .before .before .before .loop .d) (omega arith)), same-room (c .before .before .before .before .before .before .before .before .before .before .before .before .args .free .now) (c .before .before .before .before .before .before .before .before .before .before .before .before .args .rows .now) (c .before .before .before .before .before .before .before .before .before .before .before .before .args .plans .now) (c .before .before .before .before .before .before .before .before .before .before .before .before .args .columns .now) (c .before .before .before .before .before .before .before .before .before .before .before .before .args .fronts .now) (c .before .before .before .before .before .before .before .before .before .before .before .before .args .bound) (c .before .before .before .before .before .before .before .before .before .before .before .before .args .desks) _ _ _ _ (c .before .before .before .before .before .before .before .before .before .before .loop .inv) (c .before .before .before .before .before .before .before .before .before .before .before .before .pre .2), c .before .before .before .before .before .before .before .before .before .before .before .before .pre .2)
+
+order-for-requires : tie.Need-order-for-requires Inv-loop μ-loop
+order-for-requires c κs =
+    let p = c .before .before .before .before .before .before .before .before .before .before .before .before .before .pre .1 (c .before .before .before .before .before .before .before .before .before .before .before .loop .d) (omega arith) .0 .plannable in
+    (p .limits, (p .low, p .few, p .early, simp (length-take, length-drop) (omega (arith, c .before .before .before .before .before .before .before .before .before .before .before .loop .inv .rows-so-far, (room (c .before .before .before .before .before .before .before .before .before .before .before .before .before .args .free .now) (c .before .before .before .before .before .before .before .before .before .before .before .before .before .args .rows .now) (c .before .before .before .before .before .before .before .before .before .before .before .before .before .args .plans .now) (c .before .before .before .before .before .before .before .before .before .before .before .before .before .args .columns .now) (c .before .before .before .before .before .before .before .before .before .before .before .before .before .args .fronts .now) (c .before .before .before .before .before .before .before .before .before .before .before .before .before .args .bound) (c .before .before .before .before .before .before .before .before .before .before .before .before .before .args .desks) (c .before .before .before .before .before .before .before .before .before .before .before .loop .d) (omega arith)), same-room (c .before .before .before .before .before .before .before .before .before .before .before .before .before .args .free .now) (c .before .before .before .before .before .before .before .before .before .before .before .before .before .args .rows .now) (c .before .before .before .before .before .before .before .before .before .before .before .before .before .args .plans .now) (c .before .before .before .before .before .before .before .before .before .before .before .before .before .args .columns .now) (c .before .before .before .before .before .before .before .before .before .before .before .before .before .args .fronts .now) (c .before .before .before .before .before .before .before .before .before .before .before .before .before .args .bound) (c .before .before .before .before .before .before .before .before .before .before .before .before .before .args .desks) _ _ _ _ (c .before .before .before .before .before .before .before .before .before .before .before .loop .inv) (c .before .before .before .before .before .before .before .before .before .before .before .before .before .pre .2), c .before .before .before .before .before .before .before .before .before .before .before .before .before .pre .2))))
+
+mul-at : tie.Need-mul-at Inv-loop μ-loop
+mul-at c = search needs
+
+element-copy-out-at : tie.Need-element-copy-out-at Inv-loop μ-loop
+element-copy-out-at c = search needs
+
+add-at : tie.Need-add-at Inv-loop μ-loop
+add-at c = record { fits = omega (arith, c .before .before .before .before .before .before .before .before .before .before .before .before .before .before .before .loop .inv .rows-so-far, c .before .before .before .before .before .before .before .before .before .before .before .before .before .before .before .loop .inv .sized, (room (c .before .before .before .before .before .before .before .before .before .before .before .before .before .before .before .before .before .args .free .now) (c .before .before .before .before .before .before .before .before .before .before .before .before .before .before .before .before .before .args .rows .now) (c .before .before .before .before .before .before .before .before .before .before .before .before .before .before .before .before .before .args .plans .now) (c .before .before .before .before .before .before .before .before .before .before .before .before .before .before .before .before .before .args .columns .now) (c .before .before .before .before .before .before .before .before .before .before .before .before .before .before .before .before .before .args .fronts .now) (c .before .before .before .before .before .before .before .before .before .before .before .before .before .before .before .before .before .args .bound) (c .before .before .before .before .before .before .before .before .before .before .before .before .before .before .before .before .before .args .desks) (c .before .before .before .before .before .before .before .before .before .before .before .before .before .before .before .loop .d) (omega arith)), same-room (c .before .before .before .before .before .before .before .before .before .before .before .before .before .before .before .before .before .args .free .now) (c .before .before .before .before .before .before .before .before .before .before .before .before .before .before .before .before .before .args .rows .now) (c .before .before .before .before .before .before .before .before .before .before .before .before .before .before .before .before .before .args .plans .now) (c .before .before .before .before .before .before .before .before .before .before .before .before .before .before .before .before .before .args .columns .now) (c .before .before .before .before .before .before .before .before .before .before .before .before .before .before .before .before .before .args .fronts .now) (c .before .before .before .before .before .before .before .before .before .before .before .before .before .before .before .before .before .args .bound) (c .before .before .before .before .before .before .before .before .before .before .before .before .before .before .before .before .before .args .desks) _ _ _ _ (c .before .before .before .before .before .before .before .before .before .before .before .before .before .before .before .loop .inv) (c .before .before .before .before .before .before .before .before .before .before .before .before .before .before .before .before .before .pre .2), c .before .before .before .before .before .before .before .before .before .before .before .before .before .before .before .before .before .pre .2) }
+
+add-d : tie.Need-add-d Inv-loop μ-loop
+add-d c = search needs
+
+loop-less : tie.Need-loop-less Inv-loop μ-loop
+loop-less c = search needs
+
+loop-again : tie.Need-loop-again Inv-loop μ-loop
+loop-again c = written-more (c .before .before .before .before .before .before .before .before .before .before .before .before .before .before .before .before .before .args .free .now) (c .before .before .before .before .before .before .before .before .before .before .before .before .before .before .before .before .before .args .rows .now) (c .before .before .before .before .before .before .before .before .before .before .before .before .before .before .before .before .before .args .plans .now) (c .before .before .before .before .before .before .before .before .before .before .before .before .before .before .before .before .before .args .columns .now) (c .before .before .before .before .before .before .before .before .before .before .before .before .before .before .before .before .before .args .fronts .now) (c .before .before .before .before .before .before .before .before .before .before .before .before .before .before .before .before .before .args .bound) (c .before .before .before .before .before .before .before .before .before .before .before .before .before .before .before .before .before .args .desks) (c .before .before .before .before .before .before .before .before .before .before .before .before .before .before .before .before .before .pre .1) _ (c .before .before .before .before .before .before .before .before .before .before .before .before .before .before .before .loop .result) (c .before .before .before .before .before .before .before .before .before .before .before .before .before .before .before .loop .at) (c .before .before .before .before .before .before .before .before .before .before .before .before .before .before .before .loop .d) (c .before .before .before .before .before .before .before .before .before .before .before .before .before .before .before .loop .inv) (omega arith) _ (c .before .before .before .before .before .before .before .before .before .before .before .past .ensures) _ (c .before .before .before .order-for .ensures .buffer)
+
+same-length : tie.Need-same-length Inv-loop μ-loop
+same-length c = same-room (c .before .before .before .args .free .now) (c .before .before .before .args .rows .now) (c .before .before .before .args .plans .now) (c .before .before .before .args .columns .now) (c .before .before .before .args .fronts .now) (c .before .before .before .args .bound) (c .before .before .before .args .desks) _ _ _ _ (c .before .loop .inv) (c .before .before .before .pre .2)
+
+returns : tie.Need-returns Inv-loop μ-loop
+returns c = written-all (c .before .before .before .args .free .now) (c .before .before .before .args .rows .now) (c .before .before .before .args .plans .now) (c .before .before .before .args .columns .now) (c .before .before .before .args .fronts .now) (c .before .before .before .args .bound) (c .before .before .before .args .desks) _ _ _ _ (c .before .loop .inv) (omega arith)
+
+pub write-orders-spec : {M : Type 1} → statement M
+write-orders-spec =
+    tie.close
+    (tie.spec
+    Inv-loop
+    μ-loop
+    loop-holds
+    mul-past
+    add-past
+    mul-past-2
+    index-1-past
+    mul-past-3
+    element-copy-out-past
+    past-requires
+    mul-late
+    add-late
+    mul-late-2
+    mul-late-3
+    index-1-late
+    index-2-late
+    mul-order-for
+    mul-order-for-2
+    index-1-order-for
+    mul-order-for-3
+    add-order-for
+    mul-order-for-4
+    index-1-order-for-2
+    mul-order-for-5
+    add-order-for-2
+    mul-order-for-6
+    index-1-order-for-3
+    mul-order-for-7
+    element-copy-out-order-for
+    mul-order-for-8
+    element-copy-out-order-for-2
+    mul-order-for-9
+    sub-order-for
+    part-order-for-start
+    part-order-for-end
+    order-for-requires
+    mul-at
+    element-copy-out-at
+    add-at
+    add-d
+    loop-less
+    loop-again
+    same-length
+    returns)

@@ -1,0 +1,114 @@
+// Several desks, one overtime limit: the call offered to a bureau that plans its desks together. It has no `requires`, and its contract
+// gives its whole outcome: the answer, and every word of the result buffer at exit.
+ghost use mathlib.Core.Path.{_≡_};
+ghost use mathlib.Core.List.{flatten};
+ghost use Prim.Native.Nat.{_≤_};
+ghost use lib.ListN.{length};
+ghost use Rattle.schedule.specs.Limits.{mostDesks};
+ghost use Rattle.results.specs.Results.{written};
+ghost use Rattle.outcomes.specs.Planning.{gives};
+ghost use Rattle.several.specs.Orders.{rowsTo, ordersTo, CanOrder};
+ghost use Rattle.several.specs.Calls.{severalCall};
+use choice::Desks;
+use choice::Taken;
+use refusals::Tested;
+use schedule::Desk;
+use schedule::Profile;
+use several_books::AllRead;
+
+// The answer: the least greatest lateness and the overtimes added up; or the refusal with the desk that it concerns, from 1, 0 for none.
+pub enum SeveralAnswer {
+    Chosen(i32, u32),
+    Refused(u32, usize, u32),
+}
+
+// The orders of all desks, desk after desk: that of each desk's first listed plan within the bound.
+fn write_orders(
+    free: &[u32; Desks::MOST],
+    rows: &[usize; Desks::MOST],
+    plans: &[usize; Desks::MOST],
+    columns: &[[u32; Desk::PLACES]; Desks::COLUMNS],
+    fronts: &[[u32; Desk::ROWS]; Desks::FRONTS],
+    desks: usize,
+    bound: u32,
+    result: &mut [u32],
+)
+    requires { ⌜ (desks ≤ mostDesks) × CanOrder (now free) (now rows) (now plans) (now columns) (now fronts) bound desks ×
+        (rowsTo (now rows) desks ≤ length (now result)) ⌝ }
+    ensures { λ _. ⌜ now (result .exit) ≡
+        written (flatten (ordersTo (now (free .entry)) (now (rows .entry)) (now (plans .entry)) (now (columns .entry)) (now (fronts .entry))
+        bound desks)) (now (result .entry)) ⌝ }
+{
+    let mut at: usize = 0;
+    let mut d: usize = 0;
+    while d < desks {
+        let k = choice::past(&fronts[2 * d + 1], 0, plans[d], bound);
+        let late = fronts[2 * d + 1][k];
+        plans::order_for(
+            Profile::Ordering,
+            &columns[3 * d],
+            &columns[3 * d + 1],
+            &columns[3 * d + 2],
+            rows[d],
+            free[d],
+            late,
+            &mut result[at..],
+        );
+        at += rows[d];
+        d += 1;
+    }
+}
+
+// Of 1 to 8 desks, the orders that make the greatest lateness over all desks least, with overtimes that add up to at most the limit.
+pub fn several(
+    opening: u32,
+    books: &[u32],
+    lengths: &[u32],
+    closings: &[u32],
+    limit: u32,
+    result: &mut [u32],
+) -> SeveralAnswer
+    ensures { λ r. ⌜ gives r (now (result .exit)) ≡
+        severalCall opening (now (books .entry)) (now (lengths .entry)) (now (closings .entry)) limit (now (result .entry)) ⌝ }
+{
+    if several_books::lent_amiss(opening, books.len(), lengths, closings, limit) {
+        return SeveralAnswer::Refused(Tested::RANGE, 0, 0);
+    }
+    let mut free: [u32; Desks::MOST] = [0; Desks::MOST];
+    let mut rows: [usize; Desks::MOST] = [0; Desks::MOST];
+    let mut plans: [usize; Desks::MOST] = [0; Desks::MOST];
+    let mut columns: [[u32; Desk::PLACES]; Desks::COLUMNS] = [[0; Desk::PLACES]; Desks::COLUMNS];
+    let mut fronts: [[u32; Desk::ROWS]; Desks::FRONTS] = [[0; Desk::ROWS]; Desks::FRONTS];
+    let read = several_books::read_desks(
+        opening,
+        books,
+        lengths,
+        &mut free,
+        &mut rows,
+        &mut plans,
+        &mut columns,
+        &mut fronts,
+    );
+    match read {
+        AllRead::Refused(number, place, desk) => SeveralAnswer::Refused(number, place, desk),
+        AllRead::Rows(total) => {
+            if result.len() < total {
+                return SeveralAnswer::Refused(Tested::NARROW, 0, 0);
+            }
+            let Taken::Plans(late, sum) = choice::choose(&plans, &fronts, closings, limit) else {
+                return SeveralAnswer::Refused(Tested::OVERTIME, 0, 0);
+            };
+            write_orders(
+                &free,
+                &rows,
+                &plans,
+                &columns,
+                &fronts,
+                lengths.len(),
+                late,
+                result,
+            );
+            SeveralAnswer::Chosen(schedule::lower(late), sum as u32)
+        }
+    }
+}
