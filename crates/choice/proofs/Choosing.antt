@@ -25,7 +25,7 @@ use Rattle.refusals.proofs.Tests.{never}
 use Rattle.listing.specs.Fronts.{pairAt, pairsOf}
 use Rattle.overtime.specs.Choices.{overtimes, lates, greatestLate, firstPlans, keepsLimit, listedLates, Within, bestPlans}
 use Rattle.overtime.proofs.Firsts.{AllRise}
-use Rattle.overtime.proofs.Least.{own, stops, never-keeps}
+use Rattle.overtime.proofs.Least.{own, stops, never-keeps, Chooses, chooses}
 use Rattle.choice.specs.declared.Taken.{Taken}
 use Rattle.choice.specs.declared.Taken.the-variants as variants
 use Rattle.choice.specs.Lists.{endsAt, latesAt, listAt, listsIn, ListedAt, Listed, placeAt, Behind, takenOf, takenBy, bestOf}
@@ -182,6 +182,31 @@ module _ (plans : List ℕ) (fronts : List (List ℕ)) (closings : List ℕ) (li
 
       pub goes : (late sum : ℕ) → takenOf closings here ≡ variants.Plans late sum → sum ≤ limit → Goes late sum
       goes late sum e h = goes-with here refl late sum e h
+
+    -- What is known of the plans that are chosen: the limit is kept, and the lateness comes back from what it is raised to.
+    pub record Best (w : Within) : Type 0 where
+      pub first : firstPlans (lowered (raised (w .late))) lists ≡ some (w .plans)
+      pub late : lowered (raised (w .late)) ≡ w .late
+      pub kept : overtimes closings (w .plans) ≤ limit
+
+    best-for : (o : Option Within) → Chooses limit closings lists some-list rise o → (w : Within) → o ≡ some w → Best w
+    best-for none c w e = never (cc)
+    best-for (some v) c w e =
+        let same : v ≡ w = cc in
+        subst Best same (
+        let o = own limit closings lists some-list rise (v .late) (v .plans) (c .first) (c .kept) in
+        let r = in-range (subst (λ (z : ℤ). List·Memᴰ z (listedLates lists)) (c .late) (o .listed)) in
+        let back : lowered (raised (v .late)) ≡ v .late = ap (λ (z : ℤ). lowered (raised z)) (r .is) ∙
+        ap lowered (raised-lowered (r .number)) ∙ sym (r .is) in
+        record {
+          first = ap (λ (z : ℤ). firstPlans z lists) back ∙ c .first;
+          late = back;
+          kept = c .kept;
+        }
+        )
+
+    pub best : (w : Within) → bestPlans limit closings lists ≡ some w → Best w
+    best w e = best-for (bestPlans limit closings lists) (chooses limit closings lists some-list rise) w e
 
 -- Cursors at the beginning, and with a smaller bound.
 pub behind-first : (plans : List ℕ) (fronts : List (List ℕ)) (m bound : ℕ) → m ≤ mostDesks →

@@ -190,6 +190,13 @@ module _ (plans : List ℕ) (fronts : List (List ℕ)) (closings : List ℕ) (bo
           sym (ap (takenOf closings)
           (plans-none (lowered bound) (listAt plans fronts) (length closings) 0 e (omega arith) (omega arith) w))
 
+    -- Each desk has a plan within the bound: these are the first plans.
+    pub firsts-all : ((e : ℕ) → e < length closings → place e < at plans e) →
+        firstPlans (lowered bound) (listsIn plans fronts (length closings)) ≡ some (firstsTo (length closings))
+    firsts-all h =
+        plans-all (lowered bound) (listAt plans fronts) firstAt (length closings) 0
+        (λ i l k. within i (omega arith) (h i (omega arith)))
+
     module _ (cursors : List ℕ) (late sum d : ℕ) (t : Taking cursors late sum d) where
       -- One desk more.
       taking-next : d < length closings → d < mostDesks → place d < at plans d → (worse more : ℕ) →
@@ -239,9 +246,7 @@ module _ (plans : List ℕ) (fronts : List (List ℕ)) (closings : List ℕ) (bo
       unfolding takenOf
       taken-all e some-desk =
           let m : ℕ = length closings in
-          let all : firstPlans (lowered bound) (listsIn plans fronts m) ≡ some (firstsTo m) =
-          plans-all (lowered bound) (listAt plans fronts) firstAt m 0
-          (λ i l h. within i (omega arith) (t .all-within i (omega arith))) in
+          let all = firsts-all (λ i h. t .all-within i (omega arith)) in
           let y : late ≡ raised (greatestLate (firstsTo m)) = t .greatest ∙ ap (λ (n : ℕ). topLate (firstsTo n)) e ∙
           top-greatest (λ i. at (endsAt fronts i) (place i)) (λ i. at (latesAt fronts i) (place i)) m some-desk in
           let s : sum ≡ overtimes closings (firstsTo m) = t .total ∙ ap (λ (n : ℕ). overtimes (take n closings) (firstsTo n)) e ∙

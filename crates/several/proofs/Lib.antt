@@ -1,1 +1,3 @@
 pub mod Writing
+pub mod Days
+pub mod Outcomes

@@ -17,8 +17,9 @@ use Rattle.book.specs.Rows.{Contents, refused, accepted}
 use Rattle.readers.specs.declared.Terms.{Terms}
 use Rattle.readers.specs.Reads.{readBy, outcomeOf}
 use Rattle.several_books.specs.declared.AllRead.the-variants as all-read
+use Rattle.several_books.specs.declared.AllRead.{AllRead}
 use Rattle.several_books.specs.Lent.{booksOf, total, DesksRead, refusedAt, days, dayInFront, withRest, readDesks, rowsOf}
-use Rattle.several_books.specs.Held.{Slot, slotAt, Holds, Sized, ReadInto, noDay, allReadOf, ReadAll}
+use Rattle.several_books.specs.Held.{Slot, slotAt, Holds, Sized, ReadInto, noDay, DaysHeld, allReadOf, ReadAll}
 use Rattle.several_books.proofs.Sums.{total-next}
 
 -- What a test says of the contents.
@@ -50,7 +51,7 @@ unfolding behind
 behind-more [] d x = refl
 behind-more (e ∷ ds) d x = ap (dayInFront e) (behind-more ds d x)
 
-rows-more : (ds : List Day) (d : Day) → rowsOf (ds ++ (d ∷ [])) ≡ rowsOf ds + length (d .rows)
+pub rows-more : (ds : List Day) (d : Day) → rowsOf (ds ++ (d ∷ [])) ≡ rowsOf ds + length (d .rows)
 unfolding rowsOf
 rows-more [] d = omega arith
 rows-more (e ∷ ds) d = omega (arith, rows-more ds d)
@@ -190,3 +191,31 @@ module _ (terms : Terms) (books lengths : List ℕ) where
               ((i : ℕ) → i < length xs → Holds (terms .opening) (getD xs i noDay) (slotAt free rows plans columns fronts i)))
               same (omega (arith, t .many, books-length lengths books), λ i l. t .held i (omega (arith, t .many)));
         }
+
+-- What all books that were read say: the refusal with its desk, or the days, and their desks.
+module _ (terms : Terms) (books : List (List ℕ)) (free rows plans : List ℕ) (columns fronts : List (List ℕ)) (r : AllRead)
+    (all : ReadAll terms books free rows plans columns fronts r) where
+  refusal-of : (x : DesksRead) (n p d : ℕ) → all-read.Refused n p d ≡ allReadOf x → x ≡ refusedAt n p d
+  unfolding allReadOf
+  refusal-of (refusedAt m q e) n p d h = cc
+  refusal-of (days ds) n p d h = never (cc)
+
+  pub refusal-read : (n p d : ℕ) → r ≡ all-read.Refused n p d → readDesks terms 1 books ≡ refusedAt n p d
+  refusal-read n p d e = refusal-of (readDesks terms 1 books) n p d (sym e ∙ all .outcome)
+
+  pub record DaysOf (sum : ℕ) : Type 0 where
+    pub all-days : List Day
+    pub read : readDesks terms 1 books ≡ days all-days
+    pub summed : sum ≡ rowsOf all-days
+    pub many : length all-days ≡ length books
+    pub held : DaysHeld (terms .opening) all-days free rows plans columns fronts
+
+  days-of : (x : DesksRead) → readDesks terms 1 books ≡ x → (n : ℕ) → all-read.Rows n ≡ allReadOf x → DaysOf n
+  unfolding allReadOf
+  days-of (refusedAt m q e) f n h = never (cc)
+  days-of (days ds) f n h =
+      let k = all .held ds f in
+      record { all-days = ds; read = f; summed = cc; many = k .0; held = k .1 }
+
+  pub days-read : (n : ℕ) → r ≡ all-read.Rows n → DaysOf n
+  days-read n e = days-of (readDesks terms 1 books) refl n (sym e ∙ all .outcome)

@@ -90,8 +90,13 @@ unfoldable pub allReadOf : DesksRead → AllRead
 allReadOf (refusedAt n p d) = all-read.Refused n p d
 allReadOf (days ds) = all-read.Rows (rowsOf ds)
 
+-- Each of these days has its desk.
+abbrev pub DaysHeld : (opening : ℕ) → List Day → (free rows plans : List ℕ) (columns fronts : List (List ℕ)) → Type 0
+DaysHeld opening ds free rows plans columns fronts =
+    (e : ℕ) → e < length ds → Holds opening (getD ds e noDay) (slotAt free rows plans columns fronts e)
+
 pub record ReadAll (terms : Terms) (books : List (List ℕ)) (free rows plans : List ℕ) (columns fronts : List (List ℕ)) (r : AllRead) : Type
     0 where
   pub outcome : r ≡ allReadOf (readDesks terms 1 books)
   pub held : (ds : List Day) → readDesks terms 1 books ≡ days ds →
-      (length ds ≡ length books) × ((e : ℕ) → e < length ds → Holds (terms .opening) (getD ds e noDay) (slotAt free rows plans columns fronts e))
+      (length ds ≡ length books) × DaysHeld (terms .opening) ds free rows plans columns fronts

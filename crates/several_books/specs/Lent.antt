@@ -1,12 +1,14 @@
 -- What is lent for several desks: the run of books cut by their lengths, what must be right of all that is lent, and what the books give.
 -- Rests on: the reader, the schedule's limits.
-use Prim.Native.Nat.{ℕ, suc, _+_}
+use Prim.Native.Nat.{ℕ, suc, _+_, _≤_, _<_}
 use mathlib.Core.Bool.{Bool, true, not, _&&_, _||_}
+use mathlib.Core.Path.{_≡_}
 use mathlib.Core.List.{List, [], _∷_}
 use lib.Dec.{leb, ltb, eqb}
 use lib.ListN.{length, take, drop}
 use Rattle.schedule.specs.Limits.{mostOpening, mostDesks, latestClosing, largestLimit}
 use Rattle.schedule.specs.Rows.{Day}
+use Rattle.schedule.specs.Columns.{at}
 use Rattle.book.specs.Rows.{Contents, refused, accepted}
 use Rattle.readers.specs.declared.Terms.{Terms}
 use Rattle.readers.specs.Reads.{readBy}
@@ -31,6 +33,16 @@ unfoldable pub lentAmiss : (opening run : ℕ) (lengths closings : List ℕ) (li
 lentAmiss opening run lengths closings limit =
     ltb mostOpening opening || (ltb largestLimit limit || (eqb (length lengths) 0 || (ltb mostDesks (length lengths) ||
     (not (eqb (length closings) (length lengths)) || (not (allOpen closings) || not (eqb (total lengths) run))))))
+
+-- Beside it, what must be right.
+pub record LentRight (opening run : ℕ) (lengths closings : List ℕ) (limit : ℕ) : Type 0 where
+  pub in-opening : opening ≤ mostOpening
+  pub in-limit : limit ≤ largestLimit
+  pub some-desk : 1 ≤ length lengths
+  pub few-desks : length lengths ≤ mostDesks
+  pub even : length closings ≡ length lengths
+  pub in-closing : (e : ℕ) → e < length closings → at closings e ≤ latestClosing
+  pub adds-up : total lengths ≡ run
 
 -- What the books give: the number and place of the first refusal, with its desk, counted from 1; or the days of all desks.
 pub data DesksRead : Type 0 where
