@@ -2,7 +2,8 @@
 ghost use mathlib.Core.Path.{_≡_};
 ghost use Rattle.calls.specs.Answers.{saidNo, saidList, saidOrder, saidVerdict, saidPlace};
 ghost use Rattle.open_desk.specs.Answers.{saidOpen, saidStart, saidPace};
-ghost use Rattle.answers.specs.Boundary.{answerOf};
+ghost use Rattle.several.specs.Answers.{saidSeveral};
+ghost use Rattle.answers.specs.Boundary.{answerOf, answerOfDesks};
 use desk_open::OpenAnswer;
 use desk_pace::PaceAnswer;
 use desk_start::StartAnswer;
@@ -10,10 +11,12 @@ use outcomes::ListAnswer;
 use outcomes::OrderAnswer;
 use outcomes::VerdictAnswer;
 use row_calls::RowPlace;
+use several::SeveralAnswer;
 
 // What every call answers: the refusal's number, 0 for none, and its place, or the place of a row's number word; the count of plans, the
 // first plan that beats a posting, 0 for none, or the rows of an opened desk; end and worst lateness, or the worst lateness so far of an
-// open desk; an open desk's minute. A field that a case does not speak of is 0.
+// open desk; an open desk's minute; of several desks the one that a refusal concerns, 0 for none, and the sum of the overtimes. A field
+// that a case does not speak of is 0.
 #[repr(C)]
 pub struct Answer {
     pub place: usize,
@@ -22,6 +25,8 @@ pub struct Answer {
     pub end: u32,
     pub late: i32,
     pub minute: u32,
+    pub desk: u32,
+    pub overtime: u32,
 }
 
 fn refused(number: u32, place: usize) -> Answer
@@ -34,6 +39,8 @@ fn refused(number: u32, place: usize) -> Answer
         end: 0,
         late: 0,
         minute: 0,
+        desk: 0,
+        overtime: 0,
     }
 }
 
@@ -48,6 +55,8 @@ pub fn of_list(answer: ListAnswer) -> Answer
             end: 0,
             late: 0,
             minute: 0,
+            desk: 0,
+            overtime: 0,
         },
         ListAnswer::Refused(number, place) => refused(number, place),
     }
@@ -64,6 +73,8 @@ pub fn of_order(answer: OrderAnswer) -> Answer
             end: end,
             late: late,
             minute: 0,
+            desk: 0,
+            overtime: 0,
         },
         OrderAnswer::Refused(number, place) => refused(number, place),
     }
@@ -80,6 +91,8 @@ pub fn of_verdict(answer: VerdictAnswer) -> Answer
             end: end,
             late: late,
             minute: 0,
+            desk: 0,
+            overtime: 0,
         },
         VerdictAnswer::Beaten(end, late, plan) => Answer {
             place: 0,
@@ -88,6 +101,8 @@ pub fn of_verdict(answer: VerdictAnswer) -> Answer
             end: end,
             late: late,
             minute: 0,
+            desk: 0,
+            overtime: 0,
         },
         VerdictAnswer::Refused(number, place) => refused(number, place),
     }
@@ -104,6 +119,8 @@ pub fn of_place(answer: RowPlace) -> Answer
             end: 0,
             late: 0,
             minute: 0,
+            desk: 0,
+            overtime: 0,
         },
         RowPlace::Refused(number, place) => refused(number, place),
     }
@@ -120,6 +137,8 @@ pub fn of_open(answer: OpenAnswer) -> Answer
             end: 0,
             late: 0,
             minute: minute,
+            desk: 0,
+            overtime: 0,
         },
         OpenAnswer::Refused(number, place) => refused(number, place),
     }
@@ -136,6 +155,8 @@ pub fn of_start(answer: StartAnswer) -> Answer
             end: 0,
             late: worst,
             minute: minute,
+            desk: 0,
+            overtime: 0,
         },
         StartAnswer::Refused(number, place) => refused(number, place),
     }
@@ -152,7 +173,36 @@ pub fn of_pace(answer: PaceAnswer) -> Answer
             end: 0,
             late: 0,
             minute: 0,
+            desk: 0,
+            overtime: 0,
         },
         PaceAnswer::Refused(number, place) => refused(number, place),
+    }
+}
+
+pub fn of_several(answer: SeveralAnswer) -> Answer
+    ensures { λ r. ⌜ r ≡ answerOfDesks (saidSeveral answer) ⌝ }
+{
+    match answer {
+        SeveralAnswer::Chosen(late, overtime) => Answer {
+            place: 0,
+            count: 0,
+            refusal: 0,
+            end: 0,
+            late: late,
+            minute: 0,
+            desk: 0,
+            overtime: overtime,
+        },
+        SeveralAnswer::Refused(number, place, desk) => Answer {
+            place: place,
+            count: 0,
+            refusal: number,
+            end: 0,
+            late: 0,
+            minute: 0,
+            desk: desk,
+            overtime: 0,
+        },
     }
 }

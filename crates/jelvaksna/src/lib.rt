@@ -12,7 +12,9 @@ ghost use Rattle.desk_pace.specs.Paces.{paceCall};
 ghost use Rattle.desk_plans.specs.Plans.{deskListCall, deskPlanCall};
 ghost use Rattle.open_desk.specs.Answers.{saidOpen, saidStart, saidPace};
 ghost use Rattle.readers.specs.Reads.{orderingRule, firstCome};
-ghost use Rattle.answers.specs.Boundary.{answerOf};
+ghost use Rattle.several.specs.Answers.{saidSeveral};
+ghost use Rattle.several.specs.Calls.{severalCall};
+ghost use Rattle.answers.specs.Boundary.{answerOf, answerOfDesks};
 use answers::Answer;
 
 // The list: two words for each plan, end and worst lateness in two's complement, by rising end.
@@ -178,4 +180,22 @@ pub extern "C" fn jelvaksna_desk_order_of_plan(
     ensures { λ _. ⌜ now (result .exit) ≡ deskPlanCall (now (desk .entry)) plan (now (result .entry)) .buffer ⌝ }
 {
     answers::of_order(open_desk::order_of_plan(desk, plan, result))
+}
+
+// Several desks, one overtime limit: the least greatest lateness, the sum of the overtimes, and the orders desk after desk.
+#[no_mangle]
+pub extern "C" fn jelvaksna_several(
+    opening: u32,
+    books: &[u32],
+    lengths: &[u32],
+    closings: &[u32],
+    limit: u32,
+    result: &mut [u32],
+) -> Answer
+    ensures { λ r. ⌜ r ≡ answerOfDesks (saidSeveral (severalCall opening (now (books .entry)) (now (lengths .entry)) (now (closings .entry))
+        limit (now (result .entry)) .answer)) ⌝ }
+    ensures { λ _. ⌜ now (result .exit) ≡
+        severalCall opening (now (books .entry)) (now (lengths .entry)) (now (closings .entry)) limit (now (result .entry)) .buffer ⌝ }
+{
+    answers::of_several(several::several(opening, books, lengths, closings, limit, result))
 }

@@ -1,2 +1,3 @@
 pub mod Orders
 pub mod Calls
+pub mod Answers
