@@ -9,8 +9,6 @@ use mathlib.Core.List.{List, _++_, List·Memᴰ}
 use mathlib.Core.Logic.{_⊎_, inl, inr}
 use lib.ListN.{length, drop, getD}
 use lib.Seq.{drop-append-seam}
-use Rattle.schedule.specs.declared.Profile.{Profile}
-use Rattle.schedule.specs.declared.Profile.the-variants.{Ordering, FirstCome}
 use Rattle.schedule.specs.Offset.{raised}
 use Rattle.schedule.specs.Rows.{Day}
 use Rattle.refusals.specs.Refusals.{byNarrow, byRange}
@@ -22,8 +20,8 @@ use Rattle.outcomes.specs.Planning.{Outcome, gives}
 use Rattle.calls.specs.Answers.{Said, saidNo}
 use Rattle.promises.specs.Vocabulary.{told}
 use Rattle.promises.specs.Promise.{Lent}
-use Rattle.promises.specs.Table.{BookRefused, by-word, disorder, crossed, Turned, by-opening, by-book, by-call}
-use Rattle.promises.proofs.Numbers.{wrong-numbered}
+use Rattle.promises.specs.Table.{Turned, by-opening, by-book, by-call}
+use Rattle.promises.proofs.Numbers.{ordering-numbered}
 use Rattle.promises.proofs.Refused.{contents-turned}
 use Rattle.running.specs.Running.{Running, endAt, worstAt}
 use Rattle.running.specs.Words.{deskWords, countIn, running, times, marks, isDesk, keepsPages, movedWords}
@@ -56,26 +54,13 @@ lent-yes said lent new e h = record {
 }
 
 -- # Opening a desk
--- A book that is refused by the ordering rule tells 1 to 8.
-not-first-come : Ordering ≡ FirstCome → ⊥
-not-first-come e = subst Is e tt
-  where
-    Is : Profile → Type 0
-    Is Ordering = Unit {0}
-    Is FirstCome = ⊥
-
-book-numbers : {book : List ℕ} {n p : ℕ} → BookRefused Ordering book n p → (1 ≤ n) × (n ≤ 9)
-book-numbers (by-word n p f) = let h = wrong-numbered (f .wrong) in (h .0, omega (arith, h .1))
-book-numbers (disorder e day t k c) = (omega arith, omega arith)
-book-numbers (crossed e day t k c) = absurd (not-first-come e)
-
 -- Before the words are looked at the call is refused by the opening minutes, which tells 3, or by the book.
 read-numbers : (opening : ℕ) (book : List ℕ) (n p : ℕ) → readBy (orderingRule opening) book ≡ refused n p → (1 ≤ n) × (n ≤ 9)
 read-numbers opening book n p e = step n p (contents-turned (orderingRule opening) book (λ day n p. ⊥) n p e)
   where
     step : (n p : ℕ) → Turned (orderingRule opening) book (λ day n p. ⊥) n p → (1 ≤ n) × (n ≤ 9)
     step _ _ (by-opening h) = (omega arith, omega arith)
-    step _ _ (by-book n p h r) = book-numbers r
+    step _ _ (by-book n p h r) = let k = ordering-numbered r in (k .0, omega (arith, k .1))
     step _ _ (by-call n p day t o) = absurd o
 
 module _ (opening : ℕ) (book ws : List ℕ) where

@@ -118,6 +118,7 @@ module _ (limit : ℕ) (closings : List ℕ) (ds : List Planning) (some-desk : 0
         late = ap greatestLate (r .pairs) ∙ f .late;
         least = λ others k. let u = covered others k in signed (omega (arith, f .least (u .0) (u .1) (u .2) (u .3), u .4));
         first = f .first ∙ ap some (sym (r .pairs));
+        ordered = ap (planOrders ds) (r .pairs);
       }
 
   abbrev Chooses-here : Option Within → Type 0

@@ -5,7 +5,7 @@ use native.Mathlib.Omega.{arith}
 use native.Mathlib.Decide.{decLe}
 use mathlib.Core.Bool.{Bool, true, false, cond}
 use mathlib.Core.Path.{_≡_, refl, sym, ap, _∙_, subst}
-use mathlib.Core.List.{List, [], _∷_, List·Memᴰ, List·Memᴰ·head, List·Memᴰ·tail, List·Memᴰ·not-nil, List·Memᴰ·cases-cons}
+use mathlib.Core.List.{List, [], _∷_, List·Memᴰ, List·Memᴰ·head, List·Memᴰ·tail, List·Memᴰ·not-nil, List·Memᴰ·cases-cons, Memᴰ·map}
 use mathlib.Core.Logic.{_⊎_, inl, inr}
 use mathlib.Core.Option.{Option, none, some, Option·some-injective, Option·none-ne-some}
 use lib.Dec.{T, leb→le, le→leb}
@@ -14,7 +14,7 @@ use lib.IntN.{ℤ, predℤ}
 use lib.Signed.{leZ}
 use Rattle.schedule.specs.Desk.{Pair, worstOf, maxZ, atMost}
 use Rattle.schedule.proofs.Signed.{up, down, _≼_, leZ→, →leZ, leZ-total, level, pred-level}
-use Rattle.schedule.proofs.Tests.{is-true, is-false}
+use Rattle.schedule.proofs.Tests.{parts, is-true, is-false}
 use Rattle.schedule.proofs.DeskLaws.{worst-kept, kept-worst}
 use Rattle.overtime.specs.Choices.{overtimes, lates, greatestLate, firstPlans, keepsLimit, lesser, leastThat, listedLates}
 use Rattle.overtime.specs.Choices.{Within, withinAt, withinFor, bestPlans}
@@ -67,7 +67,7 @@ worst-mem z (w ∷ ws) = step (leZ z (worstOf (w ∷ ws))) (worst-mem w ws)
     step true m = List·Memᴰ·tail m
     step false m = List·Memᴰ·head refl
 
-greatest-mem : (ps : List Pair) → 0 < length ps → List·Memᴰ (greatestLate ps) (lates ps)
+pub greatest-mem : (ps : List Pair) → 0 < length ps → List·Memᴰ (greatestLate ps) (lates ps)
 greatest-mem [] h = let z : ⊥ = omega arith in absurd z
 greatest-mem (p ∷ ps) h = worst-mem (p .late) (lates ps)
 
@@ -79,6 +79,20 @@ greatest-kept (p ∷ ps) h =
 pub greatest-most : (y : ℤ) (ps : List Pair) → 0 < length ps → T (atMost y (lates ps)) → greatestLate ps ≼ y
 greatest-most y [] h k = let z : ⊥ = omega arith in absurd z
 greatest-most y (p ∷ ps) h k = leZ→ (greatestLate (p ∷ ps)) y (kept-worst y (p .late) (lates ps) k)
+
+at-most-each : (y : ℤ) (zs : List ℤ) → T (atMost y zs) → (z : ℤ) → List·Memᴰ z zs → z ≼ y
+unfolding atMost
+at-most-each y [] k z m = absurd (List·Memᴰ·not-nil m)
+at-most-each y (x ∷ xs) k z m = step (parts (leZ x y) (atMost y xs) k) (List·Memᴰ·cases-cons m) (λ t n. at-most-each y xs t z n)
+  where
+    step : T (leZ x y) × T (atMost y xs) → (z ≡ x) ⊎ List·Memᴰ z xs → (T (atMost y xs) → List·Memᴰ z xs → z ≼ y) → z ≼ y
+    step t (inl e) f = subst (λ (w : ℤ). w ≼ y) (sym e) (leZ→ x y (t .0))
+    step t (inr n) f = f (t .1) n
+
+pub greatest-above : (ps : List Pair) (p : Pair) → List·Memᴰ p ps → p .late ≼ greatestLate ps
+greatest-above [] p m = absurd (List·Memᴰ·not-nil m)
+greatest-above (q ∷ ps) p m =
+    at-most-each (greatestLate (q ∷ ps)) (lates (q ∷ ps)) (greatest-kept (q ∷ ps) (omega arith)) (p .late) (Memᴰ·map (λ (x : Pair). x .late) m)
 
 -- One list or more, and closing minutes.
 module _ (limit : ℕ) (closings : List ℕ) (lists : List (List Pair)) (some-list : 0 < length lists) (rise : AllRise lists) where

@@ -11,7 +11,7 @@ use Rattle.schedule.specs.Desk.{Pair, OrderOf, pairOf}
 use Rattle.schedule.specs.Plans.{plans}
 use Rattle.schedule.specs.Cover.{PlansPromise}
 use Rattle.outcomes.specs.Planning.{Planning}
-use Rattle.overtime.specs.Choices.{overtimes, greatestLate, firstPlans, listsOf, Chosen, bestChoice}
+use Rattle.overtime.specs.Choices.{overtimes, greatestLate, firstPlans, planOrders, listsOf, Chosen, bestChoice}
 
 -- A choice: an order of its rows for each desk; and the pairs that they come to.
 abbrev pub ChoiceOf : List Planning → (orders : List (List ℕ)) → Type 0
@@ -41,8 +41,9 @@ module _ (limit : ℕ) (closings : List ℕ) (desks : List Planning) where
     pub late : greatestLate (pairsBy desks (a .orders)) ≡ a .late
     -- .. and no choice of orders that keeps the limit, listed or not, has a smaller greatest lateness.
     pub least : (others : List (List ℕ)) → KeepLimit others → a .late ≤ℤ greatestLate (pairsBy desks others)
-    -- Each desk takes its first listed plan whose worst lateness is at most that.
+    -- Each desk takes its first listed plan whose worst lateness is at most that, and the order of that plan.
     pub first : firstPlans (a .late) (listsOf desks) ≡ some (pairsBy desks (a .orders))
+    pub ordered : planOrders desks (pairsBy desks (a .orders)) ≡ a .orders
 
   pub record DesksPromise : Type 0 where
     pub best : (a : Chosen) → bestChoice limit closings desks ≡ some a → Best a

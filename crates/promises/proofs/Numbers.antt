@@ -2,7 +2,7 @@
 -- Assumes nothing.
 use Prim.Native.Nat.{ℕ, _≤_}
 use native.Mathlib.Omega.{arith}
-use mathlib.Core.Path.{sym, subst}
+use mathlib.Core.Path.{_≡_, sym, subst}
 use mathlib.Core.List.{List}
 use Rattle.schedule.specs.declared.Profile.{Profile}
 use Rattle.schedule.specs.declared.Profile.the-variants.{Ordering, FirstCome}
@@ -12,7 +12,7 @@ use Rattle.readers.specs.declared.Terms.{Terms}
 use Rattle.promises.specs.Table.{BookRefused, by-word, disorder, crossed, Turned, by-opening, by-book, by-call}
 use Rattle.promises.specs.Promise.{InTable}
 
-pub wrong-numbered : {book : List ℕ} {n p : ℕ} → Wrong book n p → (1 ≤ n) × (n ≤ 7)
+wrong-numbered : {book : List ℕ} {n p : ℕ} → Wrong book n p → (1 ≤ n) × (n ≤ 7)
 wrong-numbered (cut d) = (omega arith, omega arith)
 wrong-numbered (kind p d l w) = (omega arith, omega arith)
 wrong-numbered (range p d l w) = (omega arith, omega arith)
@@ -33,6 +33,19 @@ pub book-numbered : {profile : Profile} {book : List ℕ} {n p : ℕ} → BookRe
 book-numbered {profile} (by-word n p f) = up-to-7 profile n (wrong-numbered (f .wrong))
 book-numbered (disorder e day t k c) = subst (λ (x : Profile). InTable x 8) (sym e) (omega arith, omega arith)
 book-numbered (crossed e day t k c) = subst (λ (x : Profile). InTable x 13) (sym e) (omega arith, omega arith, λ e. omega arith)
+
+-- By the ordering rule a refused book tells 1 to 8.
+not-first-come : Ordering ≡ FirstCome → ⊥
+not-first-come e = subst Is e tt
+  where
+    Is : Profile → Type 0
+    Is Ordering = Unit {0}
+    Is FirstCome = ⊥
+
+pub ordering-numbered : {book : List ℕ} {n p : ℕ} → BookRefused Ordering book n p → (1 ≤ n) × (n ≤ 8)
+ordering-numbered (by-word n p f) = let h = wrong-numbered (f .wrong) in (h .0, omega (arith, h .1))
+ordering-numbered (disorder e day t k c) = (omega arith, omega arith)
+ordering-numbered (crossed e day t k c) = absurd (not-first-come e)
 
 pub turned-numbered : {terms : Terms} {book : List ℕ} {Own : Day → (n p : ℕ) → Type 0} {n p : ℕ} →
     ((day : Day) (n p : ℕ) → Own day n p → (9 ≤ n) × (n ≤ 12)) → Turned terms book Own n p → InTable (terms .profile) n

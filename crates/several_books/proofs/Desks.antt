@@ -61,7 +61,7 @@ unfolding booksOf
 books-length [] run = refl
 books-length (n ∷ ns) run = ap suc (books-length ns (drop n run))
 
-days-one : {a b : List Day} → days a ≡ days b → a ≡ b
+pub days-one : {a b : List Day} → days a ≡ days b → a ≡ b
 days-one e = cc
 
 module _ (terms : Terms) (books lengths : List ℕ) where

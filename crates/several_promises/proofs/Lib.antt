@@ -1,0 +1,4 @@
+pub mod Books
+pub mod Answered
+pub mod Refused
+pub mod Promise
