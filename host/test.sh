@@ -57,12 +57,15 @@ cplusplus() {
 step 'cargo test' tests
 step 'Rust example' example day
 step 'Rust example of a morning' example morning
+step 'Rust example of a bureau' example bureau
 step 'C example' c_program example
 step 'C example of a morning' c_program morning
+step 'C example of a bureau' c_program bureau
 step 'C guard pages' c_program guard_pages
 if command -v valgrind >/dev/null; then
     step 'C example under valgrind' checked example
     step 'C example of a morning under valgrind' checked morning
+    step 'C example of a bureau under valgrind' checked bureau
 else
     echo '== valgrind is not there: not run'
 fi

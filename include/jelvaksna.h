@@ -5,6 +5,7 @@
  * and needs no setting up. The archive has no data that is written, so calls
  * may run at the same time on several threads. A desk that is opened with a
  * book carries its rows from then on, in words that the caller lends and keeps.
+ * A bureau may lend the books of several desks at once.
  *
  * Link with libjelvaksna.a, which `rt staticlib jelvaksna` writes after it has
  * proved what each call does. This header is kept by hand; host/tests/header.rs
@@ -43,15 +44,15 @@
  * numbers of the kind 3 words.
  *
  * OPENING. The software takes some minutes to open each transcript, the same for
- * all: `opening`, from 0 to 30, is the first argument of the nine calls that
+ * all: `opening`, from 0 to 30, is the first argument of the ten calls that
  * work out ends or open a desk. A row ends at its start plus opening plus length.
  * Length is the reading time alone: spare and the due of a class do not count
  * opening, nor does the test which rows disagree. Outside 0 to 30 such a call is
  * refused RANGE at 0, before the book is looked at.
  *
- * From 1.x: pass 0 as the first argument of these nine calls, and every answer
- * is what 1.5 gave. A desk that 1.5 left is, word for word, one that 2.0
- * opened with 0.
+ * From 1.x: pass 0 as the first argument of the nine of these calls that 1.5
+ * had, and every answer is what 1.5 gave. A desk that 1.5 left is, word for
+ * word, one that 2.0 opened with 0.
  *
  * A PLAN is a pair that some order of all rows attains, its end and its worst
  * lateness (the largest of end minus due; below 0 where all work is early),
@@ -61,14 +62,14 @@
  *
  * FIRST COME, FIRST DUE is a profile for books where a transcript released
  * earlier is never due later. It is chosen by calling it: each call, but those
- * of the open desk, has another of its name with first_come_ put in. Two rows
- * cross if one has the smaller release and also the larger due; the profile
- * accepts rows in any order, as long as no two of them cross, and whether they
- * disagree does not matter. Its list is one plan, with the rows by release,
- * then due, then row: no order of the rows ends sooner, and none has a smaller
- * worst lateness. A book may be accepted by the profile, by the other calls,
- * by both or by neither. Where both accept it they list the same plan, though
- * its order may differ.
+ * of the open desk and that of several desks, has another of its name with
+ * first_come_ put in. Two rows cross if one has the smaller release and also
+ * the larger due; the profile accepts rows in any order, as long as no two of
+ * them cross, and whether they disagree does not matter. Its list is one plan,
+ * with the rows by release, then due, then row: no order of the rows ends
+ * sooner, and none has a smaller worst lateness. A book may be accepted by the
+ * profile, by the other calls, by both or by neither. Where both accept it they
+ * list the same plan, though its order may differ.
  *
  * THE OPEN DESK is a run of JELVAKSNA_DESK_WORDS words or more that is filled
  * from a book when it is opened. It holds the rows with the pages of each,
@@ -99,8 +100,8 @@
  * call leaves the desk as it is, so it always holds what the accepted starts
  * and changes of pace alone give, in their order.
  *
- * From 2.0: nothing to change. A desk that 2.0 left stays open, but its pace
- * cannot be changed (RANGE at 0): it has no pages.
+ * A desk that 2.0 left stays open, but its pace cannot be changed (RANGE at 0):
+ * it has no pages.
  *
  * A run that is shorter, or that a call can see to be no desk, is refused RANGE
  * at 0 and left as it is. But a run that was never opened, or that was written
@@ -112,6 +113,30 @@
  * EARLY, so a desk whose own minute is past it can start nothing more; its
  * list, its orders and changes of its pace go on.
  *
+ * SEVERAL DESKS. A bureau runs 1 to 8 desks, each with a book and a closing
+ * minute, under one overtime limit. The overtime of a plan, as of any order, is
+ * how far its end passes the closing minute of its desk, or 0. A plan is chosen
+ * for each desk: their overtimes add up to at most the limit, and the greatest
+ * worst lateness over all desks is the least with which that can be done. It is
+ * the least among all orders of the rows of every desk, also orders that are on
+ * no list: whatever order each desk might take, if the overtimes keep the
+ * limit, some desk is at least that late. Each desk takes its first listed plan
+ * whose worst lateness is at most that, though it may have one that is less
+ * late; so none of its orders that are at most that late ends sooner.
+ *
+ * The books are lent end to end in one run, their lengths in words in a second,
+ * the closing minutes in a third. Each book is read by itself, as its own part
+ * of the run; no two of its rows may disagree. The profile has no such call.
+ * One opening serves all desks. A refusal of a book has its desk, counted from
+ * 1, and a place that counts within that desk's book. Any other concerns no
+ * single book and has desk 0, place 0. The greatest limit is never refused
+ * OVERTIME: no overtimes add up to more than 141,501,440.
+ *
+ * From 2.0 or 2.1: compile again, and change nothing else. The struct that
+ * every call returns has two fields more at its end, 0 in every other call than
+ * this one, so a caller that was compiled with an earlier header must not be
+ * linked with this version.
+ *
  * WHAT IS LENT. Pointers are aligned for uint32_t, their lengths count words,
  * and all those words can be read; those of `result`, and of the desk in a
  * call that writes one (open, start, pace), can also be written. What can be
@@ -121,15 +146,18 @@
  * on success only, and only as far as each call says; further words of them
  * hold what they held. A refused call writes nothing.
  *
- * STACK. A call uses up to 40 KB of its caller's stack, as measured on x86-64;
- * that there is room is not proved. Give a thread that calls 64 KB at least.
+ * STACK. A call uses up to 40 KB of its caller's stack, that of several desks
+ * up to 96 KB, as measured on x86-64; that there is room is not proved. Give a
+ * thread that calls 64 KB at least, for several desks 128 KB.
  *
  * THE SEQUENCE OF REFUSALS. A call that is told an opening, or lent a desk in
- * place of a book, begins with RANGE, at 0; a change of pace then tests the
- * pace, RANGE at 0 too. The words of the book are tested from the first on, at
- * one word in the sequence CUT, KIND, FULL, RANGE, TWICE, COUNT. Then come
- * TAIL, DISORDER (in the profile CROSSED), NOT_POSTING, UNLISTED, DONE, EARLY,
- * NARROW, UNKEPT. The first condition met is the one that is told.
+ * place of a book, begins with RANGE, at 0; that of several desks tests there
+ * all that can be lent amiss; a change of pace then tests the pace, RANGE at 0
+ * too. The words of the book are tested from the first on, at one word in the
+ * sequence CUT, KIND, FULL, RANGE, TWICE, COUNT. Then come TAIL, DISORDER (in
+ * the profile CROSSED), and of several desks the next book. Then come
+ * NOT_POSTING, UNLISTED, DONE, EARLY, NARROW, UNKEPT, OVERTIME. The first
+ * condition met is the one that is told.
  */
 #ifndef JELVAKSNA_H
 #define JELVAKSNA_H
@@ -137,12 +165,12 @@
 #include <stddef.h>
 #include <stdint.h>
 
-#define JELVAKSNA_VERSION "2.1"
+#define JELVAKSNA_VERSION "2.2"
 
 /* The refusals, and the place that comes with each. */
 #define JELVAKSNA_CUT 1          /* the book stops where a word is due: its length */
 #define JELVAKSNA_KIND 2         /* another kind is due here: the word */
-#define JELVAKSNA_RANGE 3        /* a value outside its range: the word; the opening, a new pace, or no desk: 0 */
+#define JELVAKSNA_RANGE 3        /* a value outside its range: the word; the opening, a new pace, no desk, or desks lent amiss: 0 */
 #define JELVAKSNA_TWICE 4        /* the number of an earlier row: the number word */
 #define JELVAKSNA_FULL 5         /* a number word would open row 257: that word */
 #define JELVAKSNA_COUNT 6        /* the end word differs from the rows read: that word */
@@ -155,15 +183,19 @@
 #define JELVAKSNA_CROSSED 13     /* two rows cross: number word of the first row that does with one above */
 #define JELVAKSNA_DONE 14        /* the row was started before: the row */
 #define JELVAKSNA_EARLY 15       /* before the desk's minute or the release, or past 20,000,000: 0 */
+#define JELVAKSNA_OVERTIME 16    /* no orders of the desks keep the limit: 0 */
 
 /* Limits. */
-#define JELVAKSNA_MAX_OPENING 30      /* opening minutes */
-#define JELVAKSNA_MIN_PACE 4          /* pages an hour, at least */
-#define JELVAKSNA_MAX_PACE 120        /* pages an hour, at most */
-#define JELVAKSNA_MAX_ROWS 256        /* words that any order fits in */
-#define JELVAKSNA_MAX_LIST_WORDS 512  /* words that any list fits in */
-#define JELVAKSNA_MAX_BOOK_WORDS 1027 /* words of the longest accepted book */
-#define JELVAKSNA_DESK_WORDS 1288     /* words of an open desk */
+#define JELVAKSNA_MAX_OPENING 30       /* opening minutes */
+#define JELVAKSNA_MIN_PACE 4           /* pages an hour, at least */
+#define JELVAKSNA_MAX_PACE 120         /* pages an hour, at most */
+#define JELVAKSNA_MAX_ROWS 256         /* words that any order fits in */
+#define JELVAKSNA_MAX_LIST_WORDS 512   /* words that any list fits in */
+#define JELVAKSNA_MAX_BOOK_WORDS 1027  /* words of the longest accepted book */
+#define JELVAKSNA_DESK_WORDS 1288      /* words of an open desk */
+#define JELVAKSNA_MAX_DESKS 8          /* desks of a bureau */
+#define JELVAKSNA_MAX_CLOSING 20000000 /* closing minute of a desk */
+#define JELVAKSNA_MAX_LIMIT 200000000  /* overtime limit of a bureau */
 
 /* The word of a kind with a value; JELVAKSNA_WORD(0, 3) is class 3. */
 #define JELVAKSNA_WORD(kind, value) ((uint32_t)(kind) << 29 | (uint32_t)(value))
@@ -174,12 +206,14 @@ extern "C" {
 
 /* What every call answers. Fields that a case does not speak of are 0. */
 typedef struct jelvaksna_answer {
-    size_t place;     /* place of a refusal, or of a row's number word */
-    size_t count;     /* count of plans or of a desk's rows, or the first plan that beats a posting */
-    uint32_t refusal; /* 0, or the refusal's number, 1 to 15; 8 never in the profile, 13 only there */
-    uint32_t end;     /* end of the order or the posting */
-    int32_t late;     /* its worst lateness; after a start, the worst lateness so far */
-    uint32_t minute;  /* the desk's minute */
+    size_t place;      /* place of a refusal, or of a row's number word */
+    size_t count;      /* count of plans or of a desk's rows, or the first plan that beats a posting */
+    uint32_t refusal;  /* 0, or the refusal's number, 1 to 16; 8 never in the profile, 13 only there */
+    uint32_t end;      /* end of the order or the posting */
+    int32_t late;      /* its worst lateness; after a start, the worst so far; of several desks, the least */
+    uint32_t minute;   /* the desk's minute */
+    uint32_t desk;     /* the desk that a refusal concerns, from 1; 0 where none */
+    uint32_t overtime; /* the sum of the overtimes */
 } jelvaksna_answer;
 
 /* The list. `result` has two words for each row of the book or more, whatever
@@ -304,6 +338,28 @@ jelvaksna_answer jelvaksna_desk_list(const uint32_t *desk, size_t desk_len,
 jelvaksna_answer jelvaksna_desk_order_of_plan(const uint32_t *desk, size_t desk_len,
                                               uint32_t plan,
                                               uint32_t *result, size_t result_len);
+
+/* The call of several desks.
+ *
+ * Chooses a plan for each desk of a bureau under one overtime limit. `books` has
+ * the books of all desks end to end, `lengths` the length in words of each, and
+ * `closings` the closing minute of each desk. `result` has one word for each row
+ * of all books or more, and takes the orders of the plans desk after desk, each
+ * as jelvaksna_order_of_plan gives it: row numbers count within the desk's book,
+ * and an accepted book of n words has (n - 3) / 4 rows. Answers `late`, the least
+ * lateness, and `overtime`, the sum of the overtimes.
+ * Refused: RANGE at 0, desk 0, for an opening past 30, no desk or more than 8,
+ * unequal counts of lengths and closing minutes, lengths that do not add up to
+ * books_len (they are added without wrapping), a closing minute past 20,000,000
+ * or a limit past 200,000,000. Then 1 to 8 with the desk, for the first book
+ * that is refused; one of length 0 is CUT at 0. After all books NARROW, and last
+ * OVERTIME, exactly if no orders of the desks keep the limit: both at 0, desk 0. */
+jelvaksna_answer jelvaksna_several(uint32_t opening,
+                                   const uint32_t *books, size_t books_len,
+                                   const uint32_t *lengths, size_t lengths_len,
+                                   const uint32_t *closings, size_t closings_len,
+                                   uint32_t limit,
+                                   uint32_t *result, size_t result_len);
 
 #ifdef __cplusplus
 }

@@ -17,7 +17,9 @@ _Static_assert(offsetof(jelvaksna_answer, refusal) == 16, "layout");
 _Static_assert(offsetof(jelvaksna_answer, end) == 20, "layout");
 _Static_assert(offsetof(jelvaksna_answer, late) == 24, "layout");
 _Static_assert(offsetof(jelvaksna_answer, minute) == 28, "layout");
-_Static_assert(sizeof(jelvaksna_answer) == 32, "layout");
+_Static_assert(offsetof(jelvaksna_answer, desk) == 32, "layout");
+_Static_assert(offsetof(jelvaksna_answer, overtime) == 36, "layout");
+_Static_assert(sizeof(jelvaksna_answer) == 40, "layout");
 
 static void print_order(const uint32_t *order, size_t rows) {
     for (size_t i = 0; i < rows; i++)

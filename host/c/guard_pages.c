@@ -1,6 +1,7 @@
 /* Every lent buffer ends where a page that cannot be touched begins, then
  * begins where one ends: an access past either end faults. Books and postings,
- * and desks that are only read, are lent on pages that cannot be written. */
+ * lengths and closing minutes, and desks that are only read, are lent on pages
+ * that cannot be written. */
 #define _GNU_SOURCE
 #include "jelvaksna.h"
 #include <stdio.h>
@@ -211,14 +212,75 @@ static int desks(const uint32_t *sound, size_t rows, int at_end) {
     return 0;
 }
 
+/* The call of several desks with so many opening minutes on three books: twice a
+ * sound one of so many rows, then its first n words. */
+static int several(uint32_t opening, const uint32_t *sound, size_t n, size_t rows, int at_end) {
+    enum { DESKS = 3 };
+    const size_t whole = 4 * rows + 3, words = 2 * whole + n, all = DESKS * rows;
+    const uint32_t each[DESKS] = {(uint32_t)whole, (uint32_t)whole, (uint32_t)n};
+    const uint32_t minutes[DESKS] = {0};
+    uint32_t lent[INNER / sizeof *sound];
+    memcpy(lent, sound, whole * sizeof *sound);
+    memcpy(lent + whole, sound, whole * sizeof *sound);
+    memcpy(lent + 2 * whole, sound, n * sizeof *sound);
+    uint32_t *books = fenced(lent, words, at_end, PROT_READ);
+    uint32_t *lengths = fenced(each, DESKS, at_end, PROT_READ);
+    uint32_t *closings = fenced(minutes, DESKS, at_end, PROT_READ);
+    uint32_t *result = fenced(NULL, all, at_end, PROT_READ | PROT_WRITE);
+    if (books == NULL || lengths == NULL || closings == NULL || result == NULL)
+        return 1;
+    const uint32_t want = n < whole ? JELVAKSNA_CUT : 0, desk = n < whole ? DESKS : 0;
+    const size_t cut = n < whole ? n : 0;
+
+    jelvaksna_answer a = jelvaksna_several(opening, books, words, lengths, DESKS, closings, DESKS,
+                                           JELVAKSNA_MAX_LIMIT, result, all);
+    if (a.refusal != want || a.place != cut || a.desk != desk || (want == 0) != (a.overtime > 0))
+        return bad("several desks", n);
+    for (size_t i = rows; want == 0 && i < all; i++)
+        if (result[i] != result[i - rows])
+            return bad("desks with one book and two orders", n);
+    a = jelvaksna_several(opening, books, words, lengths, DESKS, closings, DESKS, 0, result, all);
+    if (a.refusal != (want != 0 ? want : JELVAKSNA_OVERTIME) || a.place != cut || a.desk != desk)
+        return bad("limit that is not kept", n);
+    uint32_t *later = at_end ? result + 1 : result;
+    a = jelvaksna_several(opening, books, words, lengths, DESKS, closings, DESKS, 0, later, all - 1);
+    if (a.refusal != (want != 0 ? want : JELVAKSNA_NARROW) || a.place != cut || a.desk != desk)
+        return bad("result for several desks", n);
+
+    /* Lent amiss: a word, a length or a closing minute fewer, and empty runs at addresses that cannot be
+     * touched. */
+    uint32_t *dead = at_end ? result + all : result - 1;
+    const jelvaksna_answer amiss[] = {
+        jelvaksna_several(opening, books + at_end, words - 1, lengths, DESKS, closings, DESKS, 0, result, all),
+        jelvaksna_several(opening, books, words, lengths + at_end, DESKS - 1, closings, DESKS, 0, result, all),
+        jelvaksna_several(opening, books, words, lengths, DESKS, closings + at_end, DESKS - 1, 0, result, all),
+        jelvaksna_several(opening, books, words, dead, 0, dead, 0, 0, result, all),
+        jelvaksna_several(opening, dead, 0, lengths, DESKS, closings, DESKS, 0, result, all),
+        jelvaksna_several(UINT32_MAX, dead, 0, dead, 0, dead, 0, UINT32_MAX, dead, 0),
+    };
+    for (size_t i = 0; i < sizeof amiss / sizeof *amiss; i++)
+        if (amiss[i].refusal != JELVAKSNA_RANGE || amiss[i].place != 0 || amiss[i].desk != 0)
+            return bad("desks lent amiss", n);
+
+    unfence(books, words, at_end);
+    unfence(lengths, DESKS, at_end);
+    unfence(closings, DESKS, at_end);
+    unfence(result, all, at_end);
+    return 0;
+}
+
 int main(void) {
     uint32_t book[JELVAKSNA_MAX_BOOK_WORDS];
     for (int at_end = 0; at_end < 2; at_end++) {
         for (size_t rows = 1; rows <= 40; rows += 3) {
             const size_t whole = make(book, rows, 1);
-            for (size_t n = 0; n <= whole; n++)
-                if (calls(&standard, (uint32_t)n % (JELVAKSNA_MAX_OPENING + 1), book, n, rows, at_end) != 0)
+            for (size_t n = 0; n <= whole; n++) {
+                const uint32_t opening = (uint32_t)n % (JELVAKSNA_MAX_OPENING + 1);
+                if (calls(&standard, opening, book, n, rows, at_end) != 0)
                     return 1;
+                if (several(opening, book, n, rows, at_end) != 0)
+                    return 1;
+            }
             make(book, rows, 0);
             for (size_t n = 0; n <= whole; n++)
                 if (calls(&first_come, (uint32_t)n % (JELVAKSNA_MAX_OPENING + 1), book, n, rows, at_end) != 0)

@@ -8,7 +8,7 @@
 //! disagree.
 
 use crate::model::{length, MARGINS, MAX_ROWS};
-use crate::{word, Pair, MAX_OPENING, MAX_PACE, MIN_PACE};
+use crate::{word, Pair, MAX_CLOSING, MAX_OPENING, MAX_PACE, MIN_PACE};
 use std::ops::Range;
 
 /// The seed of a test run: `JELVAKSNA_SEED` (decimal, or hexadecimal after 0x), or a fixed one.
@@ -187,6 +187,18 @@ impl Draft {
     /// The same rows in a sequence by chance.
     pub fn shuffled(mut self, rng: &mut Rng) -> Self {
         rng.shuffle(&mut self.rows);
+        self
+    }
+
+    /// The same day with every due so many minutes later, as far as dues reach. No row has a class then.
+    pub fn promised_later(mut self, minutes: i64) -> Self {
+        let dues = || self.rows.iter().map(|row| row.due);
+        let least = -dues().min().unwrap_or(0);
+        let most = LAST_DUE - dues().max().unwrap_or(LAST_DUE);
+        let minutes = minutes.min(most).max(least);
+        for row in &mut self.rows {
+            (row.due, row.class) = (row.due + minutes, None);
+        }
         self
     }
 
@@ -715,6 +727,42 @@ pub fn typical_day(rng: &mut Rng, opening: u32, rows: usize) -> Draft {
     }
     day.number(rng);
     day
+}
+
+// ---- Several desks ----
+
+/// A day for each desk of a bureau, of so many rows: days of any shape; days of which most have several
+/// plans; or one such day for all, promised a little sooner or later, so that plans of many desks are about
+/// as late.
+pub fn bureau(rng: &mut Rng, opening: u32, rows: &[usize]) -> Vec<Draft> {
+    let choices = |rng: &mut Rng, rows: usize| match rng.below(4) {
+        0 => several_plans(rng, opening, rows),
+        2.. if rows > 1 => many_plans(opening, rows),
+        _ => contests(rng, opening, rows),
+    };
+    let kind = rng.below(3);
+    let one = choices(rng, rows[0]);
+    let each = rows.iter().map(|&rows| match kind {
+        0 => accepted(rng, opening, rows),
+        1 => choices(rng, rows).varied(rng),
+        _ => {
+            let later = rng.range(-4, 4);
+            one.clone().promised_later(later).arriving(rng)
+        }
+    });
+    each.collect()
+}
+
+/// A closing minute for a desk with these plans: most often about the end of one, so that some pass it.
+pub fn closing(rng: &mut Rng, plans: &[Pair]) -> u32 {
+    let end = i64::from(rng.pick(plans).end);
+    let last = i64::from(MAX_CLOSING);
+    let minute = match rng.below(10) {
+        0 => rng.pick(&[0, 1, last - 1, last]),
+        1 => end + rng.range(-100, 100),
+        _ => end + rng.range(-3, 3),
+    };
+    minute.clamp(0, last) as u32
 }
 
 // ---- Books of the profile ----

@@ -3,6 +3,7 @@
 //! - [`linked`]: the declarations of the archive and a safe wrapper over them (feature `archive`).
 //! - [`model`]: a second implementation of document 01 with requests L1 to L3, L5 and L7, from these alone.
 //! - [`desk_model`]: a second open desk of requests L6 and L8, upon that model.
+//! - [`several_model`]: a second choice for several desks under one overtime limit, upon that model.
 //! - [`books`]: a seeded maker of books, sound and damaged.
 
 pub mod books;
@@ -10,9 +11,10 @@ pub mod desk_model;
 #[cfg(feature = "archive")]
 pub mod linked;
 pub mod model;
+pub mod several_model;
 
 /// The version of the boundary, as in `include/jelvaksna.h`.
-pub const VERSION: &str = "2.1";
+pub const VERSION: &str = "2.2";
 
 /// The most opening minutes.
 pub const MAX_OPENING: u32 = 30;
@@ -23,6 +25,11 @@ pub const MAX_PACE: u32 = 120;
 
 /// The words of an open desk.
 pub const DESK_WORDS: usize = 1_288;
+
+/// The most desks of a bureau, its latest closing minute and its greatest overtime limit.
+pub const MAX_DESKS: usize = 8;
+pub const MAX_CLOSING: u32 = 20_000_000;
+pub const MAX_LIMIT: u32 = 200_000_000;
 
 /// The numbers of the refusals.
 pub mod refusal {
@@ -41,6 +48,7 @@ pub mod refusal {
     pub const CROSSED: u32 = 13;
     pub const DONE: u32 = 14;
     pub const EARLY: u32 = 15;
+    pub const OVERTIME: u32 = 16;
 }
 
 /// Which books are accepted, and which plans are listed of them.
@@ -57,6 +65,13 @@ pub enum Profile {
 pub struct Refusal {
     pub number: u32,
     pub place: usize,
+}
+
+/// Why several desks are turned down, and the desk that it concerns, from 1; 0 where it concerns none.
+#[derive(Clone, Copy, Debug, PartialEq, Eq)]
+pub struct RefusalAtDesk {
+    pub refusal: Refusal,
+    pub desk: u32,
 }
 
 /// The end and the worst lateness of an order.
@@ -85,6 +100,13 @@ pub struct Opened {
 pub struct Moved {
     pub minute: u32,
     pub worst: i32,
+}
+
+/// What is answered for several desks: the least lateness, and the sum of the overtimes.
+#[derive(Clone, Copy, Debug, PartialEq, Eq)]
+pub struct Chosen {
+    pub late: i32,
+    pub overtime: u32,
 }
 
 /// The word of a kind with a value.

@@ -2,7 +2,7 @@
 //!
 //! `opening` is always the minutes that each row takes to open, from 0 to [`crate::MAX_OPENING`].
 
-use crate::{Moved, Opened, Pair, Refusal};
+use crate::{Chosen, Moved, Opened, Pair, Refusal, RefusalAtDesk};
 
 /// What every call answers. Fields that a case does not speak of are 0.
 #[repr(C)]
@@ -14,15 +14,19 @@ pub struct Answer {
     pub end: u32,
     pub late: i32,
     pub minute: u32,
+    pub desk: u32,
+    pub overtime: u32,
 }
 
 const _: () = assert!(
-    std::mem::size_of::<Answer>() == 32
+    std::mem::size_of::<Answer>() == 40
         && std::mem::offset_of!(Answer, count) == 8
         && std::mem::offset_of!(Answer, refusal) == 16
         && std::mem::offset_of!(Answer, end) == 20
         && std::mem::offset_of!(Answer, late) == 24
         && std::mem::offset_of!(Answer, minute) == 28
+        && std::mem::offset_of!(Answer, desk) == 32
+        && std::mem::offset_of!(Answer, overtime) == 36
 );
 
 /// The exported functions, as include/jelvaksna.h declares them.
@@ -120,6 +124,18 @@ pub mod raw {
             desk: *const u32,
             desk_len: usize,
             plan: u32,
+            result: *mut u32,
+            result_len: usize,
+        ) -> Answer;
+        pub fn jelvaksna_several(
+            opening: u32,
+            books: *const u32,
+            books_len: usize,
+            lengths: *const u32,
+            lengths_len: usize,
+            closings: *const u32,
+            closings_len: usize,
+            limit: u32,
             result: *mut u32,
             result_len: usize,
         ) -> Answer;
@@ -399,5 +415,62 @@ pub mod desk {
         let mut result = [0; 2 * MAX_ROWS];
         let count = list(desk, &mut result)?;
         Ok(pairs(&result[..2 * count]))
+    }
+}
+
+/// The call on several desks: the books end to end, the length of each in words, the closing minutes, and
+/// the overtime limit of all.
+pub mod several {
+    use super::{told, Chosen, RefusalAtDesk};
+
+    /// The call on slices, with the answer as it comes.
+    pub mod plain {
+        use crate::linked::{raw, Answer};
+
+        pub fn choose(
+            opening: u32,
+            books: &[u32],
+            lengths: &[u32],
+            closings: &[u32],
+            limit: u32,
+            result: &mut [u32],
+        ) -> Answer {
+            // SAFETY: all slices are live and aligned for the call, and `result` is lent alone.
+            unsafe {
+                raw::jelvaksna_several(
+                    opening,
+                    books.as_ptr(),
+                    books.len(),
+                    lengths.as_ptr(),
+                    lengths.len(),
+                    closings.as_ptr(),
+                    closings.len(),
+                    limit,
+                    result.as_mut_ptr(),
+                    result.len(),
+                )
+            }
+        }
+    }
+
+    /// Writes an order for each desk, desk after desk, one row number a word, and gives the least lateness
+    /// that the limit allows and the sum of the overtimes.
+    pub fn choose(
+        opening: u32,
+        books: &[u32],
+        lengths: &[u32],
+        closings: &[u32],
+        limit: u32,
+        result: &mut [u32],
+    ) -> Result<Chosen, RefusalAtDesk> {
+        let answer = plain::choose(opening, books, lengths, closings, limit, result);
+        told(answer, |a| Chosen {
+            late: a.late,
+            overtime: a.overtime,
+        })
+        .map_err(|refusal| RefusalAtDesk {
+            refusal,
+            desk: answer.desk,
+        })
     }
 }

@@ -1,7 +1,10 @@
 //! The header says what the Rust declarations say, and both what the archive exports and what the
 //! source of the exported functions says.
 
-use jelvaksna::{refusal, DESK_WORDS, MAX_OPENING, MAX_PACE, MIN_PACE, VERSION};
+use jelvaksna::{
+    refusal, DESK_WORDS, MAX_CLOSING, MAX_DESKS, MAX_LIMIT, MAX_OPENING, MAX_PACE, MIN_PACE,
+    VERSION,
+};
 use std::collections::BTreeSet;
 use std::fs::read_to_string;
 use std::process::Command;
@@ -93,16 +96,17 @@ fn prototypes() {
     let declared = declared.split_once("extern \"C\" {").unwrap().1;
     let declared = declared.split_once('}').unwrap().0;
     let header = header_functions();
-    assert_eq!(header.len(), 15);
+    assert_eq!(header.len(), 16);
     assert_eq!(header, of_source(declared, "pub fn "));
 }
 
-/// For every call but those of the open desk there is one of the profile, with the same parameters.
+/// For every call but those of the open desk and of several desks there is one of the profile, with the same
+/// parameters.
 #[test]
 fn profile() {
     let (of_profile, calls): (Vec<_>, Vec<_>) = header_functions()
         .into_iter()
-        .filter(|f| !f.0.starts_with("jelvaksna_desk_"))
+        .filter(|f| !f.0.starts_with("jelvaksna_desk_") && f.0 != "jelvaksna_several")
         .partition(|f| f.0.starts_with("jelvaksna_first_come_"));
     let renamed = of_profile
         .into_iter()
@@ -173,6 +177,7 @@ fn constants() {
         ("CROSSED", refusal::CROSSED),
         ("DONE", refusal::DONE),
         ("EARLY", refusal::EARLY),
+        ("OVERTIME", refusal::OVERTIME),
     ];
     for (i, (name, number)) in numbers.into_iter().enumerate() {
         assert_eq!(number, i as u32 + 1);
@@ -187,6 +192,9 @@ fn constants() {
     assert_eq!(value("MAX_LIST_WORDS"), (2 * rows).to_string());
     assert_eq!(value("MAX_BOOK_WORDS"), (4 * rows + 3).to_string());
     assert_eq!(value("DESK_WORDS"), DESK_WORDS.to_string());
+    assert_eq!(value("MAX_DESKS"), MAX_DESKS.to_string());
+    assert_eq!(value("MAX_CLOSING"), MAX_CLOSING.to_string());
+    assert_eq!(value("MAX_LIMIT"), MAX_LIMIT.to_string());
     assert_eq!(value("VERSION"), format!("\"{VERSION}\""));
     assert!(env!("CARGO_PKG_VERSION").starts_with(&format!("{VERSION}.")));
 }
@@ -198,7 +206,7 @@ fn opening() {
     let header = header_functions();
     let opening = ("opening".to_string(), "u32".to_string());
     let told: Vec<_> = header.iter().filter(|f| f.1[0] == opening).collect();
-    assert_eq!(told.len(), 9);
+    assert_eq!(told.len(), 10);
     let on_a_desk = |name: &str| name.starts_with("jelvaksna_desk_") && !name.ends_with("_open");
     for (name, params, _) in &header {
         let none = name.ends_with("_row_place") || on_a_desk(name);

@@ -6,7 +6,9 @@
 
 use jelvaksna::books::{self, Draft, Rng};
 use jelvaksna::model::{self, Day, MAX_ROWS};
-use jelvaksna::{linked, linked::desk, Pair, Profile, DESK_WORDS, MAX_PACE, MIN_PACE};
+use jelvaksna::several_model::Bureau;
+use jelvaksna::{linked, linked::desk, linked::several};
+use jelvaksna::{Pair, Profile, DESK_WORDS, MAX_DESKS, MAX_PACE, MIN_PACE};
 use std::hint::black_box;
 use std::time::{Duration, Instant};
 
@@ -213,6 +215,43 @@ fn open_desk(name: &str, day: &Draft) {
     }
 }
 
+/// The call on several desks, beside the lists of their books. Each desk closes at the end of its middle
+/// plan, and the limit is half-way between the least overtime of a choice and that of the least late one.
+fn several_desks(name: &str, days: &[Draft]) {
+    let books: Vec<Vec<u32>> = days.iter().map(Draft::words).collect();
+    let read = |book: &Vec<u32>| Day::read(OPENING, book).expect("an accepted day");
+    let read: Vec<Day> = books.iter().map(read).collect();
+    let middle = |day: &Day| day.list()[day.list().len() / 2].end;
+    let bureau = Bureau {
+        closings: read.iter().map(middle).collect(),
+        days: read,
+    };
+    let plans: usize = bureau.days.iter().map(|day| day.list().len()).sum();
+    let sums: Vec<u64> = bureau.sums().into_iter().collect();
+    let limit = ((sums[0] + sums[sums.len() - 1]) / 2) as u32;
+
+    let (lent, closings) = (books.concat(), &bureau.closings);
+    let lengths: Vec<u32> = books.iter().map(|book| book.len() as u32).collect();
+    let (mut a, mut b) = ([0; MAX_DESKS * MAX_ROWS], [0; MAX_DESKS * MAX_ROWS]);
+    assert_eq!(
+        several::choose(OPENING, &lent, &lengths, closings, limit, &mut a),
+        bureau.choose_into(limit, &mut b)
+    );
+    assert_eq!(a, b);
+    let (call, lists) = time(
+        || several::choose(OPENING, black_box(&lent), &lengths, closings, limit, &mut a).is_ok(),
+        || {
+            let mut books = black_box(&books).iter();
+            books.all(|book| linked::list(OPENING, book, &mut b).is_ok())
+        },
+    );
+    let rows = days[0].rows.len();
+    println!(
+        "| {name} | {rows} | {plans} | {call:.2} | {lists:.2} | {:.3} |",
+        call / lists
+    );
+}
+
 fn main() {
     let seed = books::seed();
     println!("Microseconds a call, median of {RUNS} runs, seed {seed:#x}. Below 1 in the last column: the archive is faster.\n");
@@ -271,6 +310,23 @@ fn main() {
     for (name, make) in days {
         for rows in DESKS {
             open_desk(name, &make(rows));
+        }
+    }
+    println!("\nSeveral desks, {MAX_DESKS} of them, beside the lists of their books:\n");
+    println!("| day | rows of a desk | plans of all | call µs | lists µs | call / lists |");
+    println!("|---|---:|---:|---:|---:|---:|");
+    for (name, _) in days {
+        for rows in DESKS {
+            // A day of its own for each desk; the worst one is promised a minute later at each.
+            let day = |desk: usize| {
+                let mut rng = Rng::for_case(seed, "bench, several desks", desk as u64);
+                match name {
+                    "worst" => books::many_plans(OPENING, rows).promised_later(desk as i64),
+                    "typical" => books::typical_day(&mut rng, OPENING, rows),
+                    _ => books::typical_day(&mut rng, OPENING, rows).shuffled(&mut rng),
+                }
+            };
+            several_desks(name, &(0..MAX_DESKS).map(day).collect::<Vec<_>>());
         }
     }
     println!("\nHow the archive's time grows with the rows (and the model's):\n");
