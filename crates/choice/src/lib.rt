@@ -72,7 +72,8 @@ fn first_plans(
     bound: u32,
     cursors: &mut [usize; Desks::MOST],
 ) -> Taken
-    requires { ⌜ (1 ≤ length (now closings)) × (length (now closings) ≤ mostDesks) × Listed (now plans) (now fronts) (length (now closings)) ×
+    requires { ⌜ (1 ≤ length (now closings)) × (length (now closings) ≤ mostDesks) ×
+        Listed (now plans) (now fronts) (length (now closings)) ×
         Behind (now plans) (now fronts) (length (now closings)) bound (now cursors) ⌝ }
     ensures { λ r. ⌜ (r ≡ takenOf (now (closings .entry))
         (firstPlans (lowered bound) (listsIn (now (plans .entry)) (now (fronts .entry)) (length (now (closings .entry)))))) ×

@@ -52,8 +52,15 @@ cover-plans y (d ∷ ds) (o ∷ os) g c k =
     let l : v .0 .late ≼ y = omega (arith, leZ→ (v .0 .late) (q .late) (v .3 .le), leZ→ (q .late) y (t .0)) in
     let f = first-some y (d .plans) (v .0) m l in
     let s = first-of y (d .plans) (rises d (g .0)) (f .0) (f .1) .soonest (v .0) m l in
-    let u = cover-plans y ds os (g .1) (c .1) (t .1) in
-    (f .0 ∷ u .0, firsts-cons y (d .plans) (listsOf ds) (f .1) (u .1), overtimes-less (f .0) q (u .0) (pairsBy ds os) (omega (arith, v .2, s)) (u .2))
+    let u = cover-plans y ds os (g .1) (c .1) (t .1) in (
+      f .0 ∷ u .0,
+      firsts-cons y (d .plans) (listsOf ds) (f .1) (u .1),
+      overtimes-less (f .0) q (u .0) (pairsBy ds os) (omega (
+        arith,
+        v .2,
+        s,
+      )) (u .2),
+    )
 
 -- The first listed plans are those of their orders.
 record Attained (ds : List Planning) (ps : List Pair) : Type 0 where
@@ -128,11 +135,13 @@ module _ (limit : ℕ) (closings : List ℕ) (ds : List Planning) (some-desk : 0
   found none f a e = absurd (Option·none-ne-some a e)
   found (some w) f a e = subst (Best limit closings ds) (Option·some-injective _ a e) (best-of w f)
 
-  nothing : (o : Option Within) → Chooses-here o → chosenFrom closings ds o ≡ none → (os : List (List ℕ)) → ¬ KeepLimit limit closings ds os
+  nothing : (o : Option Within) → Chooses-here o → chosenFrom closings ds o ≡ none → (os : List (List ℕ)) →
+      ¬ KeepLimit limit closings ds os
   nothing none f e os k = let u = covered os k in f (u .0) (u .1) (u .2) (u .3)
   nothing (some w) f e os k = Option·none-ne-some _ (sym e)
 
-  empty : (o : Option Within) → Chooses-here o → ((os : List (List ℕ)) → ¬ KeepLimit limit closings ds os) → chosenFrom closings ds o ≡ none
+  empty : (o : Option Within) → Chooses-here o → ((os : List (List ℕ)) → ¬ KeepLimit limit closings ds os) →
+      chosenFrom closings ds o ≡ none
   empty none f h = refl
   empty (some w) f h = absurd (h (planOrders ds (w .plans)) (best-of w f .kept))
 

@@ -92,7 +92,8 @@ at-most-each y (x ∷ xs) k z m = step (parts (leZ x y) (atMost y xs) k) (List·
 pub greatest-above : (ps : List Pair) (p : Pair) → List·Memᴰ p ps → p .late ≼ greatestLate ps
 greatest-above [] p m = absurd (List·Memᴰ·not-nil m)
 greatest-above (q ∷ ps) p m =
-    at-most-each (greatestLate (q ∷ ps)) (lates (q ∷ ps)) (greatest-kept (q ∷ ps) (omega arith)) (p .late) (Memᴰ·map (λ (x : Pair). x .late) m)
+    at-most-each (greatestLate (q ∷ ps)) (lates (q ∷ ps)) (greatest-kept (q ∷ ps) (omega arith)) (p .late) (Memᴰ·map (λ (x : Pair). x
+    .late) m)
 
 -- One list or more, and closing minutes.
 module _ (limit : ℕ) (closings : List ℕ) (lists : List (List Pair)) (some-list : 0 < length lists) (rise : AllRise lists) where
@@ -153,7 +154,8 @@ module _ (limit : ℕ) (closings : List ℕ) (lists : List (List Pair)) (some-li
       at : (q : Option (List Pair)) → firstPlans y lists ≡ q → Chooses (withinAt y q)
       at none e = absurd (subst T (ap (keepsLimit limit closings) e) (l .1))
       at (some ps) e =
-          let h : overtimes closings ps ≤ limit = leb→le (overtimes closings ps) limit (subst T (ap (keepsLimit limit closings) e) (l .1)) in
+          let h : overtimes closings ps ≤ limit = leb→le (overtimes closings ps) limit (subst T (ap (keepsLimit limit closings) e) (l
+          .1)) in
           let w = own y ps e h in
           record {
             first = e;

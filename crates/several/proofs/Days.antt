@@ -59,7 +59,8 @@ orders-counted p o past (d ∷ ds) i h =
     ap o s ∙ h (suc e) (omega arith) ∙ ap (λ (k : ℕ). orEmpty (getD ds e past .orders (p k .late))) (sym s)))
 
 -- The days of books that were all read have their desks.
-pub days-ready : (terms : Terms) (books lengths closings : List ℕ) (free rows plans : List ℕ) (columns fronts : List (List ℕ)) (r : AllRead)
+pub days-ready : (terms : Terms) (books lengths closings : List ℕ) (free rows plans : List ℕ) (columns fronts : List (List ℕ)) (r :
+    AllRead)
     (all : ReadAll terms (booksOf lengths books) free rows plans columns fronts r) (total : ℕ)
     (d : DaysOf terms (booksOf lengths books) free rows plans columns fronts r all total) → length closings ≡ length lengths →
     DaysReady (terms .opening) (d .all-days) free rows plans columns fronts (length closings) total
@@ -100,7 +101,13 @@ module _ (opening : ℕ) (ds : List Day) (free rows plans : List ℕ) (columns f
   rows-same zero h = refl
   rows-same (suc d) h =
       let k = holds d (omega (arith, r .many)) in
-      omega (arith, rows-same d (omega arith), ap {B = ℕ} rowsOf (take-suc ds d noDay (omega arith)), rows-more (take d ds) (day d), k .rows)
+      omega (
+        arith,
+        rows-same d (omega arith),
+        ap {B = ℕ} rowsOf (take-suc ds d noDay (omega arith)),
+        rows-more (take d ds) (day d),
+        k .rows,
+      )
 
   -- The rows of all desks.
   pub all-rows : rowsTo rows (length closings) ≡ total
@@ -177,14 +184,20 @@ module _ (opening : ℕ) (ds : List Day) (free rows plans : List ℕ) (columns f
           let p : firstsTo plans fronts closings late (length closings) ≡ k .within .plans =
           some-one (sym (firsts-all plans fronts closings late listed has-plan) ∙ first-plans) in
           ap (ordersTo free rows plans columns fronts late) (sym n) ∙
-          orders-counted (firstAt plans fronts closings late) (orderAt free rows plans columns fronts late) (planned (orderingRule opening) noDay)
+          orders-counted (firstAt plans fronts closings late) (orderAt free rows plans columns fronts late) (planned (orderingRule
+          opening) noDay)
           desks 0 (λ e l.
           let z : 0 + e ≡ e = omega arith in
           ap (orderAt free rows plans columns fronts late) z ∙
           ap orEmpty (holds e (omega (arith, n)) .orders (firstAt plans fronts closings late e .late)) ∙
           ap (λ (g : Planning). orEmpty (g .orders (firstAt plans fronts closings late e .late)))
-          (sym (mapped-at (planned (orderingRule opening)) ds e noDay (planned (orderingRule opening) noDay) (omega (arith, n, r .many)))) ∙
-          ap (λ (i : ℕ). orEmpty (getD desks e (planned (orderingRule opening) noDay) .orders (firstAt plans fronts closings late i .late)))
+          (sym (mapped-at (planned (orderingRule opening)) ds e noDay (planned (orderingRule opening) noDay) (omega (
+            arith,
+            n,
+            r .many,
+          )))) ∙
+          ap (λ (i : ℕ). orEmpty (getD desks e (planned (orderingRule opening) noDay) .orders (firstAt plans fronts closings late i
+          .late)))
           (sym z)) ∙
           ap (planOrders desks) (ap (firstsTo plans fronts closings late) n ∙ p)
 

@@ -110,10 +110,12 @@ module _ (free rows plans : List ℕ) (columns fronts : List (List ℕ)) (bound 
         let o = plan-order slot (c .0) k (c .1) in
         let same : orderAt free rows plans columns fronts bound d ≡ o .order = ap orEmpty (o .is) in
         let f : orders (suc d) ≡ orders d ++ o .order =
-        ap flatten (map-last (orderAt free rows plans columns fronts bound) d) ∙ flatten-more (ordersTo free rows plans columns fronts bound d)
+        ap flatten (map-last (orderAt free rows plans columns fronts bound) d) ∙
+        flatten-more (ordersTo free rows plans columns fronts bound d)
         (orderAt free rows plans columns fronts bound d) ∙ ap (λ (l : List ℕ). orders d ++ l) same in
         let front : take place result ≡ orders d = ap (take place) (w .holds) ∙ take-at (orders d) (drop place entry) place (w .sized) in
-        let back : drop place result ≡ drop place entry = ap (drop place) (w .holds) ∙ drop-at (orders d) (drop place entry) place (w .sized) in
+        let back : drop place result ≡ drop place entry = ap (drop place) (w .holds) ∙
+        drop-at (orders d) (drop place entry) place (w .sized) in
         let new : after ≡ o .order ++ drop (place + at rows d) entry =
         e ∙ ap (λ (x : Option (List ℕ)). writtenOf x (take left (drop place result)))
         (ap (λ (n : ℕ). planningAt slot .orders (lowered (at (latesAt fronts d) n))) there ∙ o .is) ∙
@@ -123,7 +125,8 @@ module _ (free rows plans : List ℕ) (columns fronts : List (List ℕ)) (bound 
           within = omega arith;
           rows-so-far = more;
           sized = ap length f ∙ length-append (orders d) (o .order) ∙ omega (arith, w .sized, o .whole);
-          holds = (λ i. front i ++ (new i ++ none-left i)) ∙ ap (λ (l : List ℕ). orders d ++ l) (append-nil _) ∙ sym (append-assoc (orders d) (o .order) (drop (place + at rows d) entry)) ∙
+          holds = (λ i. front i ++ (new i ++ none-left i)) ∙ ap (λ (l : List ℕ). orders d ++ l) (append-nil _) ∙
+              sym (append-assoc (orders d) (o .order) (drop (place + at rows d) entry)) ∙
               ap (λ (l : List ℕ). l ++ drop (place + at rows d) entry) (sym f);
         })
       where

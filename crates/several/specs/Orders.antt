@@ -21,7 +21,8 @@ module _ (free rows plans : List ℕ) (columns fronts : List (List ℕ)) (bound 
   -- The order of the first listed plan of desk e within the bound; and those of the first d desks.
   abbrev pub orderAt : ℕ → List ℕ
   orderAt e =
-      orEmpty (planningAt (slotAt free rows plans columns fronts e) .orders (lowered (at (latesAt fronts e) (placeAt plans fronts bound e))))
+      orEmpty (planningAt (slotAt free rows plans columns fronts e) .orders (lowered (at (latesAt fronts e) (placeAt plans fronts bound
+      e))))
 
   abbrev pub ordersTo : ℕ → List (List ℕ)
   ordersTo d = map orderAt (countFrom 0 d)

@@ -81,7 +81,8 @@ module _ (terms : Terms) (books lengths : List ℕ) where
   unfolding readDesks booksOf
   onward-step from d h =
       ap (λ (ns : List ℕ). readDesks terms (suc d) (booksOf ns (drop from books))) (drop-cons lengths d 0 h) ∙
-      ap (λ (ws : List ℕ). withRest (suc d) (readBy terms (partAt from d)) (readDesks terms (suc (suc d)) (booksOf (drop (suc d) lengths) ws)))
+      ap (λ (ws : List ℕ). withRest (suc d) (readBy terms (partAt from d)) (readDesks terms (suc (suc d)) (booksOf (drop (suc d)
+      lengths) ws)))
       (drop-drop (at lengths d) from books)
 
   pub record ReadTo (free rows plans : List ℕ) (columns fronts : List (List ℕ)) (sum from d : ℕ) : Type 0 where
@@ -159,12 +160,14 @@ module _ (terms : Terms) (books lengths : List ℕ) where
             held = λ i l. at-desk i day here (ℕ-discrete i d) l;
           })
         where
-          at-desk : (i : ℕ) (day : Day) → Holds (terms .opening) day (slotAt free′ rows′ plans′ columns′ fronts′ d) → Dec (i ≡ d) → i < suc d →
+          at-desk : (i : ℕ) (day : Day) → Holds (terms .opening) day (slotAt free′ rows′ plans′ columns′ fronts′ d) → Dec (i ≡ d) →
+              i < suc d →
               Holds (terms .opening) (getD (t .before ++ (day ∷ [])) i noDay) (slotAt free′ rows′ plans′ columns′ fronts′ i)
           at-desk i day here (yes same) l =
               let k : getD (t .before ++ (day ∷ [])) i noDay ≡ day =
               ap (λ (j : ℕ). getD (t .before ++ (day ∷ [])) j noDay) (same ∙ sym (t .many)) ∙ getD-append-seam (t .before) day [] noDay in
-              subst (λ (j : ℕ). Holds (terms .opening) (getD (t .before ++ (day ∷ [])) i noDay) (slotAt free′ rows′ plans′ columns′ fronts′ j))
+              subst (λ (j : ℕ). Holds (terms .opening) (getD (t .before ++ (day ∷ [])) i noDay) (slotAt free′ rows′ plans′ columns′
+              fronts′ j))
               (sym same)
               (subst (λ (y : Day). Holds (terms .opening) y (slotAt free′ rows′ plans′ columns′ fronts′ d)) (sym k) here)
           at-desk i day here (no other) l =

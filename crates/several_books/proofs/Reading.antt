@@ -124,7 +124,8 @@ module _ (opening : ℕ) (book : List ℕ) (r : Given) (day : Day) (reads : read
       }
 
 -- The book of desk d is read: refused, or put into its place.
-module _ (opening : ℕ) (book : List ℕ) (r : Given) (gives : Gives opening (readBy (orderingRule opening) book) r) (free rows plans : List ℕ)
+module _ (opening : ℕ) (book : List ℕ) (r : Given) (gives : Gives opening (readBy (orderingRule opening) book) r) (free rows plans :
+    List ℕ)
     (columns fronts : List (List ℕ)) (sized : Sized free rows plans columns fronts) (d : ℕ) where
   pub into-refused : (n p : ℕ) → r .outcome ≡ Refused n p →
       ReadInto (orderingRule opening) book d free rows plans columns fronts free rows plans columns fronts (Refused n p)

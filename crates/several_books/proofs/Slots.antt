@@ -28,7 +28,8 @@ module _ (columns fronts : List (List ℕ)) (d : ℕ) (s : Slot) where
 module _ (free rows plans : List ℕ) (columns fronts : List (List ℕ)) (z : Sized free rows plans columns fronts) (d : ℕ) (h : d < mostDesks)
     (s : Slot) where
   abbrev pub slotPut : ℕ → Slot
-  slotPut e = slotAt (set free d (s .free)) (set rows d (s .rows)) (set plans d (s .plans)) (columnsPut columns fronts d s) (frontsPut columns fronts d s) e
+  slotPut e = slotAt (set free d (s .free)) (set rows d (s .rows)) (set plans d (s .plans)) (columnsPut columns fronts d s) (frontsPut
+      columns fronts d s) e
 
   pub put-here : slotPut d ≡ s
   put-here = λ i. record {
@@ -66,13 +67,16 @@ module _ (free rows plans : List ℕ) (columns fronts : List (List ℕ)) (z : Si
 
   -- Desk e is another.
   module _ (e : ℕ) (n : ¬ (e ≡ d)) where
-    column : (k : ℕ) → ¬ (k ≡ 3 * d) → ¬ (k ≡ 3 * d + 1) → ¬ (k ≡ 3 * d + 2) → getD (columnsPut columns fronts d s) k [] ≡ getD columns k []
+    column : (k : ℕ) → ¬ (k ≡ 3 * d) → ¬ (k ≡ 3 * d + 1) → ¬ (k ≡ 3 * d + 2) →
+        getD (columnsPut columns fronts d s) k [] ≡ getD columns k []
     column k x y w =
-        getD-set-other (minutesPut columns fronts d s) (3 * d + 2) k (s .due) [] w ∙ getD-set-other (releasePut columns fronts d s) (3 * d + 1) k (s .minutes) [] y ∙
+        getD-set-other (minutesPut columns fronts d s) (3 * d + 2) k (s .due) [] w ∙
+        getD-set-other (releasePut columns fronts d s) (3 * d + 1) k (s .minutes) [] y ∙
         getD-set-other columns (3 * d) k (s .release) [] x
 
     front : (k : ℕ) → ¬ (k ≡ 2 * d) → ¬ (k ≡ 2 * d + 1) → getD (frontsPut columns fronts d s) k [] ≡ getD fronts k []
-    front k x y = getD-set-other (endsPut columns fronts d s) (2 * d + 1) k (s .lates) [] y ∙ getD-set-other fronts (2 * d) k (s .ends) [] x
+    front k x y = getD-set-other (endsPut columns fronts d s) (2 * d + 1) k (s .lates) [] y ∙
+        getD-set-other fronts (2 * d) k (s .ends) [] x
 
     pub put-other : slotPut e ≡ slotAt free rows plans columns fronts e
     put-other = λ i. record {
@@ -86,7 +90,8 @@ module _ (free rows plans : List ℕ) (columns fronts : List (List ℕ)) (z : Si
       lates = front (2 * e + 1) (λ x. omega arith) (λ x. omega arith) i;
     }
 
-  pub put-sized : Sized (set free d (s .free)) (set rows d (s .rows)) (set plans d (s .plans)) (columnsPut columns fronts d s) (frontsPut columns fronts d s)
+  pub put-sized : Sized (set free d (s .free)) (set rows d (s .rows)) (set plans d (s .plans)) (columnsPut columns fronts d s)
+      (frontsPut columns fronts d s)
   put-sized = record {
     frees = simp length-set (z .frees);
     counts = simp length-set (z .counts);

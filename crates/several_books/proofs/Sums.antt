@@ -100,7 +100,8 @@ module _ (opening run : ℕ) (lengths closings : List ℕ) (limit : ℕ) where
 open-each : (cs : List ℕ) → allOpen cs ≡ true → (e : ℕ) → e < length cs → at cs e ≤ latestClosing
 unfolding allOpen
 open-each [] h e l = let z : ⊥ = omega arith in absurd z
-open-each (c ∷ cs) h e l = step e l (both-true (leb c latestClosing) (allOpen cs) h) (λ i k. open-each cs (both-true (leb c latestClosing) (allOpen cs) h .1) i k)
+open-each (c ∷ cs) h e l = step e l (both-true (leb c latestClosing) (allOpen cs) h) (λ i k. open-each cs (both-true (leb c
+    latestClosing) (allOpen cs) h .1) i k)
   where
     step : (e : ℕ) → e < suc (length cs) → (leb c latestClosing ≡ true) × (allOpen cs ≡ true) →
         ((i : ℕ) → i < length cs → at cs i ≤ latestClosing) → at (c ∷ cs) e ≤ latestClosing

@@ -136,8 +136,8 @@ pub fn read_desks(
 ) -> AllRead
     requires { ⌜ (length (now lengths) ≤ mostDesks) × (total (now lengths) ≡ length (now books)) ×
         Sized (now free) (now rows) (now plans) (now columns) (now fronts) ⌝ }
-    ensures { λ r. ⌜ ReadAll (orderingRule opening) (booksOf (now (lengths .entry)) (now (books .entry))) (now (free .exit)) (now (rows .exit))
-        (now (plans .exit)) (now (columns .exit)) (now (fronts .exit)) r ⌝ }
+    ensures { λ r. ⌜ ReadAll (orderingRule opening) (booksOf (now (lengths .entry)) (now (books .entry)))
+        (now (free .exit)) (now (rows .exit)) (now (plans .exit)) (now (columns .exit)) (now (fronts .exit)) r ⌝ }
 {
     let mut total: usize = 0;
     let mut at: usize = 0;

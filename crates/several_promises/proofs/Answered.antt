@@ -160,18 +160,24 @@ module _ (opening : ℕ) (books lengths closings : List ℕ) (limit : ℕ) (b : 
     where
       step : (x : Option Chosen) → bestChoice limit closings desks ≡ x →
           Answered opening closings limit b ds (several opening books lengths closings limit b)
-      step none e = unkept (promise .none-keep .0 e) (told-as opening books lengths closings limit b _ (call-of-days ∙ days-none opening closings limit b ds wide e))
+      step none e = unkept (promise .none-keep .0 e) (told-as opening books lengths closings limit b _ (call-of-days ∙
+          days-none opening closings limit b ds wide e))
       step (some a) e =
           let r = promise .best a e in
           let l = sym (r .late) in
           chosen (a .orders)
-          (record { kept = r .kept; least = λ others k. subst (λ (z : ℤ). z ≤ℤ greatestLate (pairsBy desks others)) l (r .least others k) })
+          (record {
+            kept = r .kept;
+            least = λ others k. subst (λ (z : ℤ). z ≤ℤ greatestLate (pairsBy desks others)) l (r .least others
+                k);
+          })
           (λ i h. each a r i h)
           (told-as opening books lengths closings limit b _ (call-of-days ∙ days-some opening closings limit b ds wide a e) ∙
           ap₂ (λ (y : ℤ) (n : ℕ). gives (saidChosen y n) (written (flatten (a .orders)) b)) l (sym (r .overtime)))
         where
           each : (a : Chosen) → Best limit closings desks a → (i : ℕ) → i < length ds →
-              FirstListed (planned (orderingRule opening) (getD ds i noDay)) (greatestLate (pairsBy desks (a .orders))) (getD (a .orders) i [])
+              FirstListed (planned (orderingRule opening) (getD ds i noDay)) (greatestLate (pairsBy desks (a .orders))) (getD (a
+              .orders) i [])
           each a r i h =
               let past : Planning = planned (orderingRule opening) noDay in
               let f = first-each (a .late) past desks (all-planned opening books lengths ds taken) (pairsBy desks (a .orders)) (r .first) i

@@ -84,7 +84,11 @@ module _ (terms : Terms) where
   reads-days d (b ∷ bs) [] g = let z : ⊥ = omega (arith, g .many) in absurd z
   reads-days d (b ∷ bs) (day ∷ ds) g =
       ap (λ (x : Contents). withRest d x (readDesks terms (suc d) bs)) (g .each 0 (omega arith)) ∙
-      ap (dayInFront day) (reads-days (suc d) bs ds (record { many = omega (arith, g .many); each = λ e h. g .each (suc e) (omega arith) }))
+      ap (dayInFront day) (reads-days (suc d) bs ds (record {
+        many = omega (arith, g .many);
+        each =
+            λ e h. g .each (suc e) (omega arith);
+      }))
 
   reads-refusal : (d : ℕ) (bs : List (List ℕ)) (n p e : ℕ) → FirstRefused bs n p e → readDesks terms d bs ≡ refusedAt n p (d + e)
   unfolding readDesks

@@ -97,7 +97,8 @@ module _ (opening : ℕ) (books lengths closings : List ℕ) (limit : ℕ) (b : 
     of-books : (x : DesksRead) → readDesks (orderingRule opening) 1 (booksOf lengths books) ≡ x → KeptBy call
     of-books (days ds) e = of-days ds (days-taken opening books lengths ds .0 e)
     of-books (refusedAt n p d) e =
-        is (call-refused opening books lengths closings limit b (lent-right opening (length books) lengths closings limit .1 right) n p d e)
+        is (call-refused opening books lengths closings limit b (lent-right opening (length books) lengths closings limit .1 right) n p
+        d e)
         kept-no
 
   of-lent : (x : Bool) → lentAmiss opening (length books) lengths closings limit ≡ x → KeptBy call

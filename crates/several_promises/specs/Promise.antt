@@ -34,7 +34,8 @@ pub record Measures : Type 0 where
   pub greatest-all : (ps : List Pair) (p : Pair) → List·Memᴰ p ps → p .late ≤ℤ greatestLate ps
 
 -- # The best choice
--- `KeepLimit orders`: an order of its rows for each desk, listed or not, whose overtimes add up to at most the limit. `pairsBy`: the end and
+-- `KeepLimit orders`: an order of its rows for each desk, listed or not, whose overtimes add up to at most the limit. `pairsBy`: the end
+-- and
 -- the worst lateness that each of them comes to.
 module _ (limit : ℕ) (closings : List ℕ) (desks : List Planning) where
   -- The orders keep the limit, and whatever orders of the desks keep it, the greatest of their latenesses is no smaller.
@@ -52,7 +53,8 @@ pub record FirstListed (desk : Planning) (y : ℤ) (order : List ℕ) : Type 0 w
   pub none-before : (k : ℕ) (p : Pair) → k < number → nth (desk .plans) k ≡ some p → ¬ (p .late ≤ℤ y)
   pub its-order : desk .orders (plan .late) ≡ some order
 
--- What the call gives of days with room for all their rows. Either best orders, desk after desk; it tells their greatest lateness and the sum
+-- What the call gives of days with room for all their rows. Either best orders, desk after desk; it tells their greatest lateness and
+-- the sum
 -- of their overtimes. Or it is refused as overtime, and no orders of the desks keep the limit.
 pub data Answered (opening : ℕ) (closings : List ℕ) (limit : ℕ) (b : List ℕ) (ds : List Day) (o : Outcome SaidOfDesks) : Type 0 where
   chosen : (orders : List (List ℕ)) → BestOrders limit closings (desksOf opening ds) orders →

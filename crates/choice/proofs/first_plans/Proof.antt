@@ -11,7 +11,8 @@ use Rattle.choice.proofs.first_plans.Statement.{statement}
 use Rattle.choice.proofs.first_plans.Tie as tie
 
 abbrev Inv-loop : tie.InvT-loop
-Inv-loop plans fronts closings bound cursors₀ late₀ sum₀ d₀ cursors late sum d = Taking plans fronts closings bound cursors late sum d
+Inv-loop plans fronts closings bound cursors₀ late₀ sum₀ d₀ cursors late sum d =
+    Taking plans fronts closings bound cursors late sum d
 
 abbrev μ-loop : tie.MeasureT-loop
 μ-loop plans fronts closings bound cursors₀ late₀ sum₀ d₀ cursors late sum d = length closings - d
@@ -45,22 +46,33 @@ element-copy-out-past c = search needs
 
 past-requires : tie.Need-past-requires Inv-loop μ-loop
 past-requires c κs =
-    let l = c .before .before .before .before .before .before .pre .2 (c .before .before .before .before .loop .d) (omega arith) in
-    (l .few, l .late-places, c .before .before .before .before .loop .inv .behind .behind (c .before .before .before .before .loop .d) (omega arith))
+    let start = c .before .before .before .before .before .before in
+    let loop = c .before .before .before .before .loop in
+    let l = start .pre .2 (loop .d) (omega arith) in
+    (l .few, l .late-places, loop .inv .behind .behind (loop .d) (omega arith))
 
 returns : tie.Need-returns Inv-loop μ-loop
 returns c =
-    let a = c .before .before .before .before .before .before .before .before .args in
-    (none-within (a .plans .now) (a .fronts .now) (a .closings .now) (a .bound) (c .before .before .before .before .before .before .before .before .pre .2) (c .before .before .before .before .before .before .loop .d) (omega arith) (sym (c .before .past .ensures) ∙ c .if1 .taken), c .before .before .before .before .before .before .loop .inv .behind)
+    let start = c .before .before .before .before .before .before .before .before in
+    let loop = c .before .before .before .before .before .before .loop in
+    let past = c .before .past in
+    let if1 = c .if1 in
+    let t = start in
+    let l = loop in (
+      none-within (t .args .plans .now) (t .args .fronts .now) (t .args .closings .now) (t .args .bound) (t .pre .2) (l .d)
+          (omega arith)
+          (sym (past .ensures) ∙ if1 .taken),
+      l .inv .behind,
+    )
 
 -- The place that was found is that of a plan.
 chosen : (c : tie.Else1 Inv-loop μ-loop) →
     let k = c .before .past .result in
-    let a = c .before .before .before .before .before .before .before .before .args in
-    (k < at (a .plans .now) (c .before .before .before .before .before .before .loop .d)) × (k < mostRows)
+    let plans = c .before .before .before .before .before .before .before .before .args .plans .now in
+    (k < at plans (c .before .before .before .before .before .before .loop .d)) × (k < mostRows)
 chosen c =
-    let a = c .before .before .before .before .before .before .before .before .args in
-    inside (a .plans .now) (a .fronts .now) (a .closings .now) (a .bound) (c .before .before .before .before .before .before .before .before .pre .2)
+    let t = c .before .before .before .before .before .before .before .before in
+    inside (t .args .plans .now) (t .args .fronts .now) (t .args .closings .now) (t .args .bound) (t .pre .2)
     (c .before .before .before .before .before .before .loop .d) (omega arith) _ (c .before .past .ensures) (c .if1 .left)
 
 mul-cursors : tie.Need-mul-cursors Inv-loop μ-loop
@@ -128,15 +140,25 @@ loop-less c = search needs
 
 loop-again : tie.Need-loop-again Inv-loop μ-loop
 loop-again c =
-    let a = c .before .before .before .before .before .before .before .before .before .before .before .before .before .args in
-    taking-more (a .plans .now) (a .fronts .now) (a .closings .now) (a .bound) (c .before .before .before .before .before .before .before .before .before .before .before .before .before .pre .2) _ _ _ _ (c .before .before .before .before .before .before .before .before .before .before .before .loop .inv) (omega arith) (omega arith) _
-    (c .before .before .before .before .before .before .past .ensures) (chosen (c .before .before .before .before .before) .0) _ _
-    (c .before .before .before .greater .ensures) (c .over .ensures) (omega arith)
+    let start = c .before .before .before .before .before .before .before .before .before .before .before .before .before in
+    let loop = c .before .before .before .before .before .before .before .before .before .before .before .loop in
+    let past = c .before .before .before .before .before .before .past in
+    let greater = c .before .before .before .greater in
+    let over = c .over in
+    let t = start in
+    taking-more (t .args .plans .now) (t .args .fronts .now) (t .args .closings .now) (t .args .bound) (t .pre .2) _ _ _ _
+    (loop .inv)
+    (omega arith) (omega arith) _ (past .ensures) (chosen (c .before .before .before .before .before) .0) _ _ (greater .ensures)
+    (over .ensures) (omega arith)
 
 returns-2 : tie.Need-returns-2 Inv-loop μ-loop
 returns-2 c =
-    let a = c .before .before .before .args in
-    (taken-all (a .plans .now) (a .fronts .now) (a .closings .now) (a .bound) (c .before .before .before .pre .2) _ _ _ _ (c .before .loop .inv) (omega arith) (omega arith), c .before .loop .inv .behind)
+    let t = c .before .before .before in
+    let l = c .before .loop in (
+      taken-all (t .args .plans .now) (t .args .fronts .now) (t .args .closings .now) (t .args .bound) (t .pre .2) _ _ _ _ (l .inv)
+          (omega arith) (omega arith),
+      l .inv .behind,
+    )
 
 pub first-plans-spec : {M : Type 1} → statement M
 first-plans-spec =

@@ -1,8 +1,10 @@
--- `write_orders` meets its contract.
+-- `write_orders` meets its contract: each turn writes the order of one desk more. The measure is the desks left.
 -- Assumes nothing.
 use native.Mathlib.Omega.{arith}
-use Prim.Native.Nat.{_-_, _<_}
+use Prim.Native.Nat.{_+_, _-_, _≤_, _<_}
+use mathlib.Core.Path.{_≡_}
 use lib.ListN.{length, length-take, length-drop}
+use Rattle.schedule.specs.Columns.{at}
 use borrow.Author.Needs.{needs}
 use Rattle.schedule.specs.Limits.{mostRows}
 use Rattle.several.proofs.Writing.{Written, written-none, written-more, written-all, same-room, room}
@@ -10,7 +12,8 @@ use Rattle.several.proofs.write_orders.Statement.{statement}
 use Rattle.several.proofs.write_orders.Tie as tie
 
 abbrev Inv-loop : tie.InvT-loop
-Inv-loop free rows plans columns fronts desks bound result₀ at₀ d₀ result at d = Written free rows plans columns fronts bound desks result₀ result at d
+Inv-loop free rows plans columns fronts desks bound result₀ at₀ d₀ result at d =
+    Written free rows plans columns fronts bound desks result₀ result at d
 
 abbrev μ-loop : tie.MeasureT-loop
 μ-loop free rows plans columns fronts desks bound result₀ at₀ d₀ result at d = desks - d
@@ -40,6 +43,21 @@ past-requires : tie.Need-past-requires Inv-loop μ-loop
 past-requires c κs =
     let l = c .before .before .before .before .before .pre .1 (c .before .before .before .loop .d) (omega arith) .0 .listed in
     (l .few, l .late-places, omega arith)
+
+-- The next order lies in the buffer.
+fits-next : (c : tie.In-loop Inv-loop μ-loop) →
+    let l = c .before .loop in
+    (l .at + at (c .before .before .before .args .rows .now) (l .d) ≤ length (l .result)) ×
+    (length (l .result) ≡ length (c .before .before .before .args .result .now))
+fits-next c =
+    let t = c .before .before .before in
+    let a = t .args in
+    let l = c .before .loop in
+    let r = room (a .free .now) (a .rows .now) (a .plans .now) (a .columns .now) (a .fronts .now) (a .bound) (a .desks) (l .d)
+    (omega arith) in
+    let s = same-room (a .free .now) (a .rows .now) (a .plans .now) (a .columns .now) (a .fronts .now) (a .bound) (a .desks) _ _ _ _
+    (l .inv) (t .pre .2) in
+    (omega (arith, r, s, l .inv .rows-so-far, t .pre .2), s)
 
 -- The place that was found is that of a plan.
 planned : (c : tie.After-past Inv-loop μ-loop) → c .past .result < mostRows
@@ -112,21 +130,32 @@ element-copy-out-order-for-2 : tie.Need-element-copy-out-order-for-2 Inv-loop μ
 element-copy-out-order-for-2 c = search needs
 
 mul-order-for-9 : tie.Need-mul-order-for-9 Inv-loop μ-loop
-mul-order-for-9 c = let p = c .before .before .before .before .before .before .before .before .before .before .before .before .pre .1 (c .before .before .before .before .before .before .before .before .before .before .loop .d) (omega arith) .0 .plannable in let h : c .before .before .before .before .before .before .before .before .before .before .loop .at < length (c .before .before .before .before .before .before .before .before .before .before .before .before .args .result .now) = omega (arith, p .low, c .before .before .before .before .before .before .before .before .before .before .loop .inv .rows-so-far, (room (c .before .before .before .before .before .before .before .before .before .before .before .before .args .free .now) (c .before .before .before .before .before .before .before .before .before .before .before .before .args .rows .now) (c .before .before .before .before .before .before .before .before .before .before .before .before .args .plans .now) (c .before .before .before .before .before .before .before .before .before .before .before .before .args .columns .now) (c .before .before .before .before .before .before .before .before .before .before .before .before .args .fronts .now) (c .before .before .before .before .before .before .before .before .before .before .before .before .args .bound) (c .before .before .before .before .before .before .before .before .before .before .before .before .args .desks) (c .before .before .before .before .before .before .before .before .before .before .loop .d) (omega arith)), same-room (c .before .before .before .before .before .before .before .before .before .before .before .before .args .free .now) (c .before .before .before .before .before .before .before .before .before .before .before .before .args .rows .now) (c .before .before .before .before .before .before .before .before .before .before .before .before .args .plans .now) (c .before .before .before .before .before .before .before .before .before .before .before .before .args .columns .now) (c .before .before .before .before .before .before .before .before .before .before .before .before .args .fronts .now) (c .before .before .before .before .before .before .before .before .before .before .before .before .args .bound) (c .before .before .before .before .before .before .before .before .before .before .before .before .args .desks) _ _ _ _ (c .before .before .before .before .before .before .before .before .before .before .loop .inv) (c .before .before .before .before .before .before .before .before .before .before .before .before .pre .2), c .before .before .before .before .before .before .before .before .before .before .before .before .pre .2) in search needs
+mul-order-for-9 c =
+    let body = c .before .before .before .before .before .before .before .before .before in
+    let start = c .before .before .before .before .before .before .before .before .before .before .before .before in
+    let loop = c .before .before .before .before .before .before .before .before .before .before .loop in
+    let f = fits-next (body) in
+    let p = start .pre .1 (loop .d) (omega arith) .0 .plannable in
+    let h : loop .at < length (start .args .result .now) = omega (arith, p .low, f) in
+    search needs
 
 sub-order-for : tie.Need-sub-order-for Inv-loop μ-loop
-sub-order-for c = omega (arith, c .before .before .before .before .before .before .before .before .before .before .loop .inv .rows-so-far, c .before .before .before .before .before .before .before .before .before .before .loop .inv .sized, (room (c .before .before .before .before .before .before .before .before .before .before .before .before .args .free .now) (c .before .before .before .before .before .before .before .before .before .before .before .before .args .rows .now) (c .before .before .before .before .before .before .before .before .before .before .before .before .args .plans .now) (c .before .before .before .before .before .before .before .before .before .before .before .before .args .columns .now) (c .before .before .before .before .before .before .before .before .before .before .before .before .args .fronts .now) (c .before .before .before .before .before .before .before .before .before .before .before .before .args .bound) (c .before .before .before .before .before .before .before .before .before .before .before .before .args .desks) (c .before .before .before .before .before .before .before .before .before .before .loop .d) (omega arith)), same-room (c .before .before .before .before .before .before .before .before .before .before .before .before .args .free .now) (c .before .before .before .before .before .before .before .before .before .before .before .before .args .rows .now) (c .before .before .before .before .before .before .before .before .before .before .before .before .args .plans .now) (c .before .before .before .before .before .before .before .before .before .before .before .before .args .columns .now) (c .before .before .before .before .before .before .before .before .before .before .before .before .args .fronts .now) (c .before .before .before .before .before .before .before .before .before .before .before .before .args .bound) (c .before .before .before .before .before .before .before .before .before .before .before .before .args .desks) _ _ _ _ (c .before .before .before .before .before .before .before .before .before .before .loop .inv) (c .before .before .before .before .before .before .before .before .before .before .before .before .pre .2), c .before .before .before .before .before .before .before .before .before .before .before .before .pre .2)
+sub-order-for c = omega (arith, fits-next (c .before .before .before .before .before .before .before .before .before))
 
 part-order-for-start : tie.Need-part-order-for-start Inv-loop μ-loop
-part-order-for-start c = omega (arith, c .before .before .before .before .before .before .before .before .before .before .loop .inv .rows-so-far, c .before .before .before .before .before .before .before .before .before .before .loop .inv .sized, (room (c .before .before .before .before .before .before .before .before .before .before .before .before .args .free .now) (c .before .before .before .before .before .before .before .before .before .before .before .before .args .rows .now) (c .before .before .before .before .before .before .before .before .before .before .before .before .args .plans .now) (c .before .before .before .before .before .before .before .before .before .before .before .before .args .columns .now) (c .before .before .before .before .before .before .before .before .before .before .before .before .args .fronts .now) (c .before .before .before .before .before .before .before .before .before .before .before .before .args .bound) (c .before .before .before .before .before .before .before .before .before .before .before .before .args .desks) (c .before .before .before .before .before .before .before .before .before .before .loop .d) (omega arith)), same-room (c .before .before .before .before .before .before .before .before .before .before .before .before .args .free .now) (c .before .before .before .before .before .before .before .before .before .before .before .before .args .rows .now) (c .before .before .before .before .before .before .before .before .before .before .before .before .args .plans .now) (c .before .before .before .before .before .before .before .before .before .before .before .before .args .columns .now) (c .before .before .before .before .before .before .before .before .before .before .before .before .args .fronts .now) (c .before .before .before .before .before .before .before .before .before .before .before .before .args .bound) (c .before .before .before .before .before .before .before .before .before .before .before .before .args .desks) _ _ _ _ (c .before .before .before .before .before .before .before .before .before .before .loop .inv) (c .before .before .before .before .before .before .before .before .before .before .before .before .pre .2), c .before .before .before .before .before .before .before .before .before .before .before .before .pre .2)
+part-order-for-start c = omega (arith, fits-next (c .before .before .before .before .before .before .before .before .before))
 
 part-order-for-end : tie.Need-part-order-for-end Inv-loop μ-loop
-part-order-for-end c = omega (arith, c .before .before .before .before .before .before .before .before .before .before .loop .inv .rows-so-far, c .before .before .before .before .before .before .before .before .before .before .loop .inv .sized, (room (c .before .before .before .before .before .before .before .before .before .before .before .before .args .free .now) (c .before .before .before .before .before .before .before .before .before .before .before .before .args .rows .now) (c .before .before .before .before .before .before .before .before .before .before .before .before .args .plans .now) (c .before .before .before .before .before .before .before .before .before .before .before .before .args .columns .now) (c .before .before .before .before .before .before .before .before .before .before .before .before .args .fronts .now) (c .before .before .before .before .before .before .before .before .before .before .before .before .args .bound) (c .before .before .before .before .before .before .before .before .before .before .before .before .args .desks) (c .before .before .before .before .before .before .before .before .before .before .loop .d) (omega arith)), same-room (c .before .before .before .before .before .before .before .before .before .before .before .before .args .free .now) (c .before .before .before .before .before .before .before .before .before .before .before .before .args .rows .now) (c .before .before .before .before .before .before .before .before .before .before .before .before .args .plans .now) (c .before .before .before .before .before .before .before .before .before .before .before .before .args .columns .now) (c .before .before .before .before .before .before .before .before .before .before .before .before .args .fronts .now) (c .before .before .before .before .before .before .before .before .before .before .before .before .args .bound) (c .before .before .before .before .before .before .before .before .before .before .before .before .args .desks) _ _ _ _ (c .before .before .before .before .before .before .before .before .before .before .loop .inv) (c .before .before .before .before .before .before .before .before .before .before .before .before .pre .2), c .before .before .before .before .before .before .before .before .before .before .before .before .pre .2)
+part-order-for-end c = omega (arith, fits-next (c .before .before .before .before .before .before .before .before .before))
 
 order-for-requires : tie.Need-order-for-requires Inv-loop μ-loop
 order-for-requires c κs =
-    let p = c .before .before .before .before .before .before .before .before .before .before .before .before .before .pre .1 (c .before .before .before .before .before .before .before .before .before .before .before .loop .d) (omega arith) .0 .plannable in
-    (p .limits, (p .low, p .few, p .early, simp (length-take, length-drop) (omega (arith, c .before .before .before .before .before .before .before .before .before .before .before .loop .inv .rows-so-far, (room (c .before .before .before .before .before .before .before .before .before .before .before .before .before .args .free .now) (c .before .before .before .before .before .before .before .before .before .before .before .before .before .args .rows .now) (c .before .before .before .before .before .before .before .before .before .before .before .before .before .args .plans .now) (c .before .before .before .before .before .before .before .before .before .before .before .before .before .args .columns .now) (c .before .before .before .before .before .before .before .before .before .before .before .before .before .args .fronts .now) (c .before .before .before .before .before .before .before .before .before .before .before .before .before .args .bound) (c .before .before .before .before .before .before .before .before .before .before .before .before .before .args .desks) (c .before .before .before .before .before .before .before .before .before .before .before .loop .d) (omega arith)), same-room (c .before .before .before .before .before .before .before .before .before .before .before .before .before .args .free .now) (c .before .before .before .before .before .before .before .before .before .before .before .before .before .args .rows .now) (c .before .before .before .before .before .before .before .before .before .before .before .before .before .args .plans .now) (c .before .before .before .before .before .before .before .before .before .before .before .before .before .args .columns .now) (c .before .before .before .before .before .before .before .before .before .before .before .before .before .args .fronts .now) (c .before .before .before .before .before .before .before .before .before .before .before .before .before .args .bound) (c .before .before .before .before .before .before .before .before .before .before .before .before .before .args .desks) _ _ _ _ (c .before .before .before .before .before .before .before .before .before .before .before .loop .inv) (c .before .before .before .before .before .before .before .before .before .before .before .before .before .pre .2), c .before .before .before .before .before .before .before .before .before .before .before .before .before .pre .2))))
+    let body = c .before .before .before .before .before .before .before .before .before .before in
+    let start = c .before .before .before .before .before .before .before .before .before .before .before .before .before in
+    let loop = c .before .before .before .before .before .before .before .before .before .before .before .loop in
+    let f = fits-next (body) in
+    let p = start .pre .1 (loop .d) (omega arith) .0 .plannable in
+    (p .limits, (p .low, p .few, p .early, simp (length-take, length-drop) (omega (arith, f))))
 
 mul-at : tie.Need-mul-at Inv-loop μ-loop
 mul-at c = search needs
@@ -135,7 +164,9 @@ element-copy-out-at : tie.Need-element-copy-out-at Inv-loop μ-loop
 element-copy-out-at c = search needs
 
 add-at : tie.Need-add-at Inv-loop μ-loop
-add-at c = record { fits = omega (arith, c .before .before .before .before .before .before .before .before .before .before .before .before .before .before .before .loop .inv .rows-so-far, c .before .before .before .before .before .before .before .before .before .before .before .before .before .before .before .loop .inv .sized, (room (c .before .before .before .before .before .before .before .before .before .before .before .before .before .before .before .before .before .args .free .now) (c .before .before .before .before .before .before .before .before .before .before .before .before .before .before .before .before .before .args .rows .now) (c .before .before .before .before .before .before .before .before .before .before .before .before .before .before .before .before .before .args .plans .now) (c .before .before .before .before .before .before .before .before .before .before .before .before .before .before .before .before .before .args .columns .now) (c .before .before .before .before .before .before .before .before .before .before .before .before .before .before .before .before .before .args .fronts .now) (c .before .before .before .before .before .before .before .before .before .before .before .before .before .before .before .before .before .args .bound) (c .before .before .before .before .before .before .before .before .before .before .before .before .before .before .before .before .before .args .desks) (c .before .before .before .before .before .before .before .before .before .before .before .before .before .before .before .loop .d) (omega arith)), same-room (c .before .before .before .before .before .before .before .before .before .before .before .before .before .before .before .before .before .args .free .now) (c .before .before .before .before .before .before .before .before .before .before .before .before .before .before .before .before .before .args .rows .now) (c .before .before .before .before .before .before .before .before .before .before .before .before .before .before .before .before .before .args .plans .now) (c .before .before .before .before .before .before .before .before .before .before .before .before .before .before .before .before .before .args .columns .now) (c .before .before .before .before .before .before .before .before .before .before .before .before .before .before .before .before .before .args .fronts .now) (c .before .before .before .before .before .before .before .before .before .before .before .before .before .before .before .before .before .args .bound) (c .before .before .before .before .before .before .before .before .before .before .before .before .before .before .before .before .before .args .desks) _ _ _ _ (c .before .before .before .before .before .before .before .before .before .before .before .before .before .before .before .loop .inv) (c .before .before .before .before .before .before .before .before .before .before .before .before .before .before .before .before .before .pre .2), c .before .before .before .before .before .before .before .before .before .before .before .before .before .before .before .before .before .pre .2) }
+add-at c =
+    let body = c .before .before .before .before .before .before .before .before .before .before .before .before .before .before in
+    record { fits = omega (arith, fits-next (body)) }
 
 add-d : tie.Need-add-d Inv-loop μ-loop
 add-d c = search needs
@@ -144,13 +175,38 @@ loop-less : tie.Need-loop-less Inv-loop μ-loop
 loop-less c = search needs
 
 loop-again : tie.Need-loop-again Inv-loop μ-loop
-loop-again c = written-more (c .before .before .before .before .before .before .before .before .before .before .before .before .before .before .before .before .before .args .free .now) (c .before .before .before .before .before .before .before .before .before .before .before .before .before .before .before .before .before .args .rows .now) (c .before .before .before .before .before .before .before .before .before .before .before .before .before .before .before .before .before .args .plans .now) (c .before .before .before .before .before .before .before .before .before .before .before .before .before .before .before .before .before .args .columns .now) (c .before .before .before .before .before .before .before .before .before .before .before .before .before .before .before .before .before .args .fronts .now) (c .before .before .before .before .before .before .before .before .before .before .before .before .before .before .before .before .before .args .bound) (c .before .before .before .before .before .before .before .before .before .before .before .before .before .before .before .before .before .args .desks) (c .before .before .before .before .before .before .before .before .before .before .before .before .before .before .before .before .before .pre .1) _ (c .before .before .before .before .before .before .before .before .before .before .before .before .before .before .before .loop .result) (c .before .before .before .before .before .before .before .before .before .before .before .before .before .before .before .loop .at) (c .before .before .before .before .before .before .before .before .before .before .before .before .before .before .before .loop .d) (c .before .before .before .before .before .before .before .before .before .before .before .before .before .before .before .loop .inv) (omega arith) _ (c .before .before .before .before .before .before .before .before .before .before .before .past .ensures) _ (c .before .before .before .order-for .ensures .buffer)
+loop-again c =
+    let start = c .before .before .before .before .before .before .before .before .before .before .before .before .before .before
+    .before .before .before in
+    let loop = c .before .before .before .before .before .before .before .before .before .before .before .before .before .before
+    .before .loop in
+    let loop-test = c .before .before .before .before .before .before .before .before .before .before .before .before .before
+    .before .loop-test in
+    let past = c .before .before .before .before .before .before .before .before .before .before .before .past in
+    let order-for = c .before .before .before .order-for in
+    let t = start in
+    let a = t .args in
+    let l = loop in
+    written-more (a .free .now) (a .rows .now) (a .plans .now) (a .columns .now) (a .fronts .now) (a .bound) (a .desks) (t .pre .1)
+    _ (l .result) (l .at) (l .d)
+    (l .inv) (loop-test .taken) _ (past .ensures) _ (order-for .ensures .buffer)
 
 same-length : tie.Need-same-length Inv-loop μ-loop
-same-length c = same-room (c .before .before .before .args .free .now) (c .before .before .before .args .rows .now) (c .before .before .before .args .plans .now) (c .before .before .before .args .columns .now) (c .before .before .before .args .fronts .now) (c .before .before .before .args .bound) (c .before .before .before .args .desks) _ _ _ _ (c .before .loop .inv) (c .before .before .before .pre .2)
+same-length c =
+    let start = c .before .before .before in
+    let loop = c .before .loop in
+    let t = start in
+    let a = t .args in
+    same-room (a .free .now) (a .rows .now) (a .plans .now) (a .columns .now) (a .fronts .now) (a .bound) (a .desks) _ _ _ _
+    (loop .inv) (t .pre .2)
 
 returns : tie.Need-returns Inv-loop μ-loop
-returns c = written-all (c .before .before .before .args .free .now) (c .before .before .before .args .rows .now) (c .before .before .before .args .plans .now) (c .before .before .before .args .columns .now) (c .before .before .before .args .fronts .now) (c .before .before .before .args .bound) (c .before .before .before .args .desks) _ _ _ _ (c .before .loop .inv) (omega arith)
+returns c =
+    let start = c .before .before .before in
+    let loop = c .before .loop in
+    let a = start .args in
+    written-all (a .free .now) (a .rows .now) (a .plans .now) (a .columns .now) (a .fronts .now) (a .bound) (a .desks) _ _ _ _
+    (loop .inv) (omega arith)
 
 pub write-orders-spec : {M : Type 1} → statement M
 write-orders-spec =

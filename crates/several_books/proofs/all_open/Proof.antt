@@ -26,7 +26,11 @@ shared-slice-read-if1 : tie.Need-shared-slice-read-if1 Inv-loop μ-loop
 shared-slice-read-if1 c = search needs
 
 returns : tie.Need-returns Inv-loop μ-loop
-returns c = sym (c .before .before .before .loop .inv .1 ∙ open-not (c .before .before .before .before .args .closings .now) (c .before .before .before .loop .d) (omega arith) (c .if1 .taken))
+returns c =
+    let loop = c .before .before .before .loop in
+    let start = c .before .before .before .before in
+    let if1 = c .if1 in
+    sym (loop .inv .1 ∙ open-not (start .args .closings .now) (loop .d) (omega arith) (if1 .taken))
 
 add-d : tie.Need-add-d Inv-loop μ-loop
 add-d c = search needs
@@ -35,7 +39,11 @@ loop-less : tie.Need-loop-less Inv-loop μ-loop
 loop-less c = search needs
 
 loop-again : tie.Need-loop-again Inv-loop μ-loop
-loop-again c = (omega arith, c .before .before .before .loop .inv .1 ∙ open-next (c .before .before .before .before .args .closings .now) (c .before .before .before .loop .d) (omega arith) (c .if1 .left))
+loop-again c =
+    let loop = c .before .before .before .loop in
+    let start = c .before .before .before .before in
+    let if1 = c .if1 in
+    (omega arith, loop .inv .1 ∙ open-next (start .args .closings .now) (loop .d) (omega arith) (if1 .left))
 
 returns-2 : tie.Need-returns-2 Inv-loop μ-loop
 returns-2 c = sym (c .before .loop .inv .1 ∙ open-end (c .before .before .args .closings .now) (c .before .loop .d) (omega arith))

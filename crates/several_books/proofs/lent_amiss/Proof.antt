@@ -1,4 +1,4 @@
--- `lent_amiss` meets its contract.
+-- `lent_amiss` meets its contract, test by test.
 -- Assumes nothing.
 use native.Mathlib.Omega.{arith}
 use Prim.Native.Nat.{ℕ}
@@ -14,36 +14,83 @@ use Rattle.several_books.proofs.lent_amiss.Statement.{statement}
 use Rattle.several_books.proofs.lent_amiss.Tie as tie
 
 returns : tie.Need-returns
-returns c = by-opening (c .before .before .before .args .opening) (c .before .before .before .args .run) (c .before .before .before .args .lengths .now) (c .before .before .before .args .closings .now) (c .before .before .before .args .limit) (c .if1 .taken)
+returns c =
+    let a = c .before .before .before .args in
+    by-opening (a .opening) (a .run) (a .lengths .now) (a .closings .now) (a .limit) (c .if1 .taken)
 
 returns-2 : tie.Need-returns-2
-returns-2 c = by-limit (c .before .before .before .before .args .opening) (c .before .before .before .before .args .run) (c .before .before .before .before .args .lengths .now) (c .before .before .before .before .args .closings .now) (c .before .before .before .before .args .limit) (c .before .if1 .left) (c .if2 .taken)
+returns-2 c =
+    let a = c .before .before .before .before .args in
+    by-limit (a .opening) (a .run) (a .lengths .now) (a .closings .now) (a .limit) (c .before .if1 .left) (c .if2 .taken)
 
 returns-3 : tie.Need-returns-3
-returns-3 c = by-none (c .before .before .before .before .before .args .opening) (c .before .before .before .before .before .args .run) (c .before .before .before .before .before .args .lengths .now) (c .before .before .before .before .before .args .closings .now) (c .before .before .before .before .before .args .limit) (c .before .before .if1 .left) (c .before .if2 .left) (c .if3 .taken)
+returns-3 c =
+    let start = c .before .before .before .before .before in
+    let if1 = c .before .before .if1 in
+    let if2 = c .before .if2 in
+    let if3 = c .if3 in
+    let a = start .args in
+    by-none (a .opening) (a .run) (a .lengths .now) (a .closings .now) (a .limit) (if1 .left) (if2 .left) (if3 .taken)
 
 returns-4 : tie.Need-returns-4
-returns-4 c = by-many (c .before .before .before .before .before .before .args .opening) (c .before .before .before .before .before .before .args .run) (c .before .before .before .before .before .before .args .lengths .now) (c .before .before .before .before .before .before .args .closings .now) (c .before .before .before .before .before .before .args .limit) (c .before .before .before .if1 .left) (c .before .before .if2 .left) (c .before .if3 .left) (c .if4 .taken)
+returns-4 c =
+    let start = c .before .before .before .before .before .before in
+    let if1 = c .before .before .before .if1 in
+    let if2 = c .before .before .if2 in
+    let if3 = c .before .if3 in
+    let if4 = c .if4 in
+    let a = start .args in
+    by-many (a .opening) (a .run) (a .lengths .now) (a .closings .now) (a .limit) (if1 .left) (if2 .left) (if3 .left) (if4 .taken)
 
 returns-5 : tie.Need-returns-5
-returns-5 c = by-count (c .before .before .before .before .before .before .before .args .opening) (c .before .before .before .before .before .before .before .args .run) (c .before .before .before .before .before .before .before .args .lengths .now) (c .before .before .before .before .before .before .before .args .closings .now) (c .before .before .before .before .before .before .before .args .limit) (c .before .before .before .before .if1 .left) (c .before .before .before .if2 .left) (c .before .before .if3 .left) (c .before .if4 .left) (c .if5 .taken)
+returns-5 c =
+    let start = c .before .before .before .before .before .before .before in
+    let if1 = c .before .before .before .before .if1 in
+    let if2 = c .before .before .before .if2 in
+    let if3 = c .before .before .if3 in
+    let if4 = c .before .if4 in
+    let if5 = c .if5 in
+    let a = start .args in
+    by-count (a .opening) (a .run) (a .lengths .now) (a .closings .now) (a .limit) (if1 .left) (if2 .left) (if3 .left) (if4 .left)
+    (if5 .taken)
 
 all-open-requires : tie.Need-all-open-requires
 all-open-requires c κs = search needs
 
 returns-6 : tie.Need-returns-6
 returns-6 c =
-    by-closing (c .before .before .before .before .before .before .before .before .before .args .opening) (c .before .before .before .before .before .before .before .before .before .args .run) (c .before .before .before .before .before .before .before .before .before .args .lengths .now) (c .before .before .before .before .before .before .before .before .before .args .closings .now) (c .before .before .before .before .before .before .before .before .before .args .limit) (c .before .before .before .before .before .before .if1 .left) (c .before .before .before .before .before .if2 .left) (c .before .before .before .before .if3 .left) (c .before .before .before .if4 .left) (c .before .before .if5 .left)
-    (ap not (sym (c .before .all-open .ensures)) ∙ c .if6 .taken)
+    let start = c .before .before .before .before .before .before .before .before .before in
+    let if1 = c .before .before .before .before .before .before .if1 in
+    let if2 = c .before .before .before .before .before .if2 in
+    let if3 = c .before .before .before .before .if3 in
+    let if4 = c .before .before .before .if4 in
+    let if5 = c .before .before .if5 in
+    let all-open = c .before .all-open in
+    let if6 = c .if6 in
+    let a = start .args in
+    by-closing (a .opening) (a .run) (a .lengths .now) (a .closings .now) (a .limit) (if1 .left) (if2 .left) (if3 .left)
+    (if4 .left) (if5 .left)
+    (ap not (sym (all-open .ensures)) ∙ if6 .taken)
 
 sum-of-requires : tie.Need-sum-of-requires
 sum-of-requires c κs = search needs
 
 returns-7 : tie.Need-returns-7
 returns-7 c =
-    ap (λ (n : ℕ). not (eqb n (c .before .before .before .before .before .before .before .before .before .before .args .run))) (c .sum-of .ensures) ∙
-    by-sum (c .before .before .before .before .before .before .before .before .before .before .args .opening) (c .before .before .before .before .before .before .before .before .before .before .args .run) (c .before .before .before .before .before .before .before .before .before .before .args .lengths .now) (c .before .before .before .before .before .before .before .before .before .before .args .closings .now) (c .before .before .before .before .before .before .before .before .before .before .args .limit) (c .before .before .before .before .before .before .before .if1 .left) (c .before .before .before .before .before .before .if2 .left) (c .before .before .before .before .before .if3 .left) (c .before .before .before .before .if4 .left) (c .before .before .before .if5 .left)
-    (ap not (sym (c .before .before .all-open .ensures)) ∙ c .before .if6 .left)
+    let start = c .before .before .before .before .before .before .before .before .before .before in
+    let sum-of = c .sum-of in
+    let if1 = c .before .before .before .before .before .before .before .if1 in
+    let if2 = c .before .before .before .before .before .before .if2 in
+    let if3 = c .before .before .before .before .before .if3 in
+    let if4 = c .before .before .before .before .if4 in
+    let if5 = c .before .before .before .if5 in
+    let all-open = c .before .before .all-open in
+    let if6 = c .before .if6 in
+    let a = start .args in
+    ap (λ (n : ℕ). not (eqb n (a .run))) (sum-of .ensures) ∙
+    by-sum (a .opening) (a .run) (a .lengths .now) (a .closings .now) (a .limit) (if1 .left) (if2 .left) (if3 .left) (if4 .left)
+    (if5 .left)
+    (ap not (sym (all-open .ensures)) ∙ if6 .left)
 
 pub lent-amiss-spec : {M : Type 1} → statement M
 lent-amiss-spec =

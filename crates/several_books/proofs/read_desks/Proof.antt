@@ -1,4 +1,4 @@
--- `read_desks` meets its contract.
+-- `read_desks` meets its contract: each turn reads one book more. The measure is the desks left.
 -- Assumes nothing.
 use native.Mathlib.Omega.{arith}
 use Prim.Native.Nat.{_-_}
@@ -19,7 +19,7 @@ abbrev μ-loop : tie.MeasureT-loop
     length lengths - d
 
 loop-holds : tie.Need-loop-holds Inv-loop μ-loop
-loop-holds c = read-none (orderingRule (c .before .before .args .opening)) _ _ _ _ _ _ _ (c .before .before .pre .2) (c .before .before .pre .1)
+loop-holds c = let t = c .before .before in read-none (orderingRule (t .args .opening)) _ _ _ _ _ _ _ (t .pre .2) (t .pre .1)
 
 mul-next : tie.Need-mul-next Inv-loop μ-loop
 mul-next c = search needs
@@ -31,7 +31,18 @@ cast-next : tie.Need-cast-next Inv-loop μ-loop
 cast-next c = record { fits = omega (arith, c .shared-slice-known3 .given (c .before .before .loop .d)) }
 
 add-next : tie.Need-add-next Inv-loop μ-loop
-add-next c = record { fits = omega (arith, next-part (orderingRule (c .before .before .before .before .before .args .opening)) (c .before .before .before .before .before .args .books .now) (c .before .before .before .before .before .args .lengths .now) _ _ _ _ _ _ _ (c .before .before .loop .d) (c .before .before .loop .inv) (omega arith)) }
+add-next c =
+    let start = c .before .before .before .before .before in
+    let loop = c .before .before .loop in
+    let a = start .args in
+    let l = loop in
+    record {
+      fits = omega (
+        arith,
+        next-part (orderingRule (a .opening)) (a .books .now) (a .lengths .now) _ _ _ _ _ _ _ (l .d)
+            (l .inv) (omega arith),
+      );
+    }
 
 mul-read-into : tie.Need-mul-read-into Inv-loop μ-loop
 mul-read-into c = search needs
@@ -43,7 +54,16 @@ part-read-into-start : tie.Need-part-read-into-start Inv-loop μ-loop
 part-read-into-start c = search needs
 
 part-read-into-end : tie.Need-part-read-into-end Inv-loop μ-loop
-part-read-into-end c = omega (arith, next-part (orderingRule (c .before .before .before .before .before .args .opening)) (c .before .before .before .before .before .args .books .now) (c .before .before .before .before .before .args .lengths .now) _ _ _ _ _ _ _ (c .before .before .loop .d) (c .before .before .loop .inv) (omega arith))
+part-read-into-end c =
+    let start = c .before .before .before .before .before in
+    let loop = c .before .before .loop in
+    let a = start .args in
+    let l = loop in
+    omega (
+      arith,
+      next-part (orderingRule (a .opening)) (a .books .now) (a .lengths .now) _ _ _ _ _ _ _ (l .d) (l .inv)
+          (omega arith),
+    )
 
 read-into-requires : tie.Need-read-into-requires Inv-loop μ-loop
 read-into-requires c κs = search needs
@@ -58,7 +78,19 @@ cast-t30 : tie.Need-cast-t30 Inv-loop μ-loop
 cast-t30 c = search needs
 
 returns : tie.Need-returns Inv-loop μ-loop
-returns c = read-refused (orderingRule (c .before .before .before .before .before .before .before .before .before .before .before .before .before .before .before .args .opening)) (c .before .before .before .before .before .before .before .before .before .before .before .before .before .before .before .args .books .now) (c .before .before .before .before .before .before .before .before .before .before .before .before .before .before .before .args .lengths .now) _ _ _ _ _ _ (c .before .before .before .before .before .before .before .before .before .before .before .before .loop .at) (c .before .before .before .before .before .before .before .before .before .before .before .before .loop .d) (c .before .before .before .before .before .before .before .before .before .before .before .before .loop .inv) (omega arith) _ _ _ _ _ _ _ (the-part (orderingRule (c .before .before .before .before .before .before .before .before .before .before .before .before .before .before .before .args .opening)) (c .before .before .before .before .before .before .before .before .before .before .before .before .before .before .before .args .books .now) (c .before .before .before .before .before .before .before .before .before .before .before .before .before .before .before .args .lengths .now) _ _ _ _ _ _ (c .before .before .before .before .before .before .before .before .before .before .before .before .loop .at) (c .before .before .before .before .before .before .before .before .before .before .before .before .loop .d) (c .before .before .before .before .before .before .before .before .before .before .before .before .loop .inv) _ refl) (c .before .before .before .read-into .ensures) _ _ (c .before .outcome .given .1)
+returns c =
+    let start = c .before .before .before .before .before .before .before .before .before .before .before .before .before .before
+    .before in
+    let loop = c .before .before .before .before .before .before .before .before .before .before .before .before .loop in
+    let loop-test = c .before .before .before .before .before .before .before .before .before .before .before .loop-test in
+    let read-into = c .before .before .before .read-into in
+    let outcome = c .before .outcome in
+    let a = start .args in
+    let l = loop in
+    read-refused (orderingRule (a .opening)) (a .books .now) (a .lengths .now) _ _ _ _ _ _ (l .at) (l .d) (l .inv)
+    (loop-test .taken) _ _ _ _ _ _ _
+    (the-part (orderingRule (a .opening)) (a .books .now) (a .lengths .now) _ _ _ _ _ _ (l .at) (l .d) (l .inv) _ refl)
+    (read-into .ensures) _ _ (outcome .given .1)
 
 enum-told : tie.Need-enum-told Inv-loop μ-loop
 enum-told c = search needs
@@ -70,7 +102,20 @@ element-copy-out-total : tie.Need-element-copy-out-total Inv-loop μ-loop
 element-copy-out-total c = search needs
 
 add-total : tie.Need-add-total Inv-loop μ-loop
-add-total c = record { fits = omega (arith, read-next (orderingRule (c .before .before .before .before .before .before .before .before .before .before .before .before .before .before .before .args .opening)) (c .before .before .before .before .before .before .before .before .before .before .before .before .before .before .before .args .books .now) (c .before .before .before .before .before .before .before .before .before .before .before .before .before .before .before .args .lengths .now) _ _ _ _ _ _ (c .before .before .before .before .before .before .before .before .before .before .before .before .loop .at) (c .before .before .before .before .before .before .before .before .before .before .before .before .loop .d) (c .before .before .before .before .before .before .before .before .before .before .before .before .loop .inv) (omega arith) _ _ _ _ _ _ _ (the-part (orderingRule (c .before .before .before .before .before .before .before .before .before .before .before .before .before .before .before .args .opening)) (c .before .before .before .before .before .before .before .before .before .before .before .before .before .before .before .args .books .now) (c .before .before .before .before .before .before .before .before .before .before .before .before .before .before .before .args .lengths .now) _ _ _ _ _ _ (c .before .before .before .before .before .before .before .before .before .before .before .before .loop .at) (c .before .before .before .before .before .before .before .before .before .before .before .before .loop .d) (c .before .before .before .before .before .before .before .before .before .before .before .before .loop .inv) _ refl) (c .before .before .before .read-into .ensures) (c .before .enum-told .given .1) .few) }
+add-total c =
+    let start = c .before .before .before .before .before .before .before .before .before .before .before .before .before .before
+    .before in
+    let loop = c .before .before .before .before .before .before .before .before .before .before .before .before .loop in
+    let loop-test = c .before .before .before .before .before .before .before .before .before .before .before .loop-test in
+    let read-into = c .before .before .before .read-into in
+    let enum-told = c .before .enum-told in
+    let a = start .args in
+    let l = loop in
+    let n = read-next (orderingRule (a .opening)) (a .books .now) (a .lengths .now) _ _ _ _ _ _ (l .at) (l .d) (l .inv)
+    (loop-test .taken) _ _ _ _ _ _ _
+    (the-part (orderingRule (a .opening)) (a .books .now) (a .lengths .now) _ _ _ _ _ _ (l .at) (l .d) (l .inv) _ refl)
+    (read-into .ensures) (enum-told .given .1) in
+    record { fits = omega (arith, n .few) }
 
 add-d : tie.Need-add-d Inv-loop μ-loop
 add-d c = search needs
@@ -79,10 +124,24 @@ loop-less : tie.Need-loop-less Inv-loop μ-loop
 loop-less c = search needs
 
 loop-again : tie.Need-loop-again Inv-loop μ-loop
-loop-again c = read-next (orderingRule (c .before .before .before .before .before .before .before .before .before .before .before .before .before .before .before .args .opening)) (c .before .before .before .before .before .before .before .before .before .before .before .before .before .before .before .args .books .now) (c .before .before .before .before .before .before .before .before .before .before .before .before .before .before .before .args .lengths .now) _ _ _ _ _ _ (c .before .before .before .before .before .before .before .before .before .before .before .before .loop .at) (c .before .before .before .before .before .before .before .before .before .before .before .before .loop .d) (c .before .before .before .before .before .before .before .before .before .before .before .before .loop .inv) (omega arith) _ _ _ _ _ _ _ (the-part (orderingRule (c .before .before .before .before .before .before .before .before .before .before .before .before .before .before .before .args .opening)) (c .before .before .before .before .before .before .before .before .before .before .before .before .before .before .before .args .books .now) (c .before .before .before .before .before .before .before .before .before .before .before .before .before .before .before .args .lengths .now) _ _ _ _ _ _ (c .before .before .before .before .before .before .before .before .before .before .before .before .loop .at) (c .before .before .before .before .before .before .before .before .before .before .before .before .loop .d) (c .before .before .before .before .before .before .before .before .before .before .before .before .loop .inv) _ refl) (c .before .before .before .read-into .ensures) (c .before .enum-told .given .1)
+loop-again c =
+    let start = c .before .before .before .before .before .before .before .before .before .before .before .before .before .before
+    .before in
+    let loop = c .before .before .before .before .before .before .before .before .before .before .before .before .loop in
+    let loop-test = c .before .before .before .before .before .before .before .before .before .before .before .loop-test in
+    let read-into = c .before .before .before .read-into in
+    let enum-told = c .before .enum-told in
+    let a = start .args in
+    let l = loop in
+    read-next (orderingRule (a .opening)) (a .books .now) (a .lengths .now) _ _ _ _ _ _ (l .at) (l .d) (l .inv) (loop-test .taken)
+    _ _ _ _ _ _ _
+    (the-part (orderingRule (a .opening)) (a .books .now) (a .lengths .now) _ _ _ _ _ _ (l .at) (l .d) (l .inv) _ refl)
+    (read-into .ensures) (enum-told .given .1)
 
 returns-2 : tie.Need-returns-2 Inv-loop μ-loop
-returns-2 c = read-end (orderingRule (c .before .before .before .before .args .opening)) (c .before .before .before .before .args .books .now) (c .before .before .before .before .args .lengths .now) _ _ _ _ _ _ _ _ (c .before .loop .inv) (omega arith)
+returns-2 c =
+    let a = c .before .before .before .before .args in
+    read-end (orderingRule (a .opening)) (a .books .now) (a .lengths .now) _ _ _ _ _ _ _ _ (c .before .loop .inv) (omega arith)
 
 pub read-desks-spec : {M : Type 1} → statement M
 read-desks-spec =

@@ -1,4 +1,4 @@
--- `read_into` meets its contract.
+-- `read_into` meets its contract: the refusal of the book, or its desk put into its place.
 -- Assumes nothing.
 use native.Mathlib.Omega.{arith}
 use borrow.Author.Needs.{needs}
@@ -32,9 +32,13 @@ enum-known-outcome c = search needs
 
 returns : tie.Need-returns
 returns c =
-    let a = c .before .before .before .before .before .args in
-    let g = c .before .outcome .given in
-    into-refused (a .opening) (a .book .now) (c .before .before .before .read .result) (c .before .before .before .read .ensures) _ _ _ _ _ (c .before .before .before .before .before .pre .1) (a .d) (g .0 .0) (g .0 .1 .0) (g .1)
+    let start = c .before .before .before .before .before in
+    let outcome = c .before .outcome in
+    let read = c .before .before .before .read in
+    let a = start .args in
+    let g = outcome .given in
+    into-refused (a .opening) (a .book .now) (read .result) (read .ensures) _ _ _ _ _ (start .pre .1) (a .d) (g .0 .0)
+    (g .0 .1 .0) (g .1)
 
 enum-told : tie.Need-enum-told
 enum-told c = search needs
@@ -118,9 +122,13 @@ element-set-from-lates c = search needs
 
 returns-2 : tie.Need-returns-2
 returns-2 c =
-    let a = c .before .before .before .before .before .before .before .before .before .before .before .before .before .args in
-    into-accepted (a .opening) (a .book .now) (c .before .before .before .before .before .before .before .before .before .before .before .read .result) (c .before .before .before .before .before .before .before .before .before .before .before .read .ensures) _ _ _ _ _ (c .before .before .before .before .before .before .before .before .before .before .before .before .before .pre .1) (a .d) (c .before .before .before .before .before .before .before .before .before .before .before .before .before .pre .0) (c .before .before .before .before .before .before .before .before .before .enum-told .given .1)
-    (c .before .before .list .result) (c .before .before .list .ensures)
+    let start = c .before .before .before .before .before .before .before .before .before .before .before .before .before in
+    let read = c .before .before .before .before .before .before .before .before .before .before .before .read in
+    let enum-told = c .before .before .before .before .before .before .before .before .before .enum-told in
+    let list = c .before .before .list in
+    let a = start .args in
+    into-accepted (a .opening) (a .book .now) (read .result) (read .ensures) _ _ _ _ _ (start .pre .1) (a .d)
+    (start .pre .0) (enum-told .given .1) (list .result) (list .ensures)
 
 pub read-into-spec : {M : Type 1} → statement M
 read-into-spec =
