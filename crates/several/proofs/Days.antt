@@ -26,7 +26,8 @@ use Rattle.choice.specs.Lists.{listAt, listsIn, Listed, placeAt, takenOf, taken
 use Rattle.choice.proofs.Taking.{firstAt, firstsTo, none-within, inside, firsts-all}
 use Rattle.choice.proofs.Choosing.{Best, best}
 use Rattle.several_books.specs.declared.AllRead.{AllRead}
-use Rattle.several_books.specs.Lent.{booksOf, rowsOf}
+use Rattle.several_lent.specs.Lent.{booksOf}
+use Rattle.several_books.specs.Days.{rowsOf}
 use Rattle.several_books.specs.Held.{Slot, slotAt, planningAt, Holds, noDay, ReadAll}
 use Rattle.several_books.proofs.Desks.{rows-more, books-length, DaysOf}
 use Rattle.several.specs.declared.SeveralAnswer.the-variants as several-answer

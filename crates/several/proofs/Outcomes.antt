@@ -11,7 +11,8 @@ use Rattle.readers.specs.Reads.{orderingRule}
 use Rattle.results.specs.Results.{written}
 use Rattle.outcomes.specs.Planning.{gives}
 use Rattle.overtime.specs.Choices.{Chosen, bestChoice}
-use Rattle.several_books.specs.Lent.{booksOf, lentAmiss, refusedAt, days, readDesks, rowsOf}
+use Rattle.several_lent.specs.Lent.{booksOf, lentAmiss}
+use Rattle.several_books.specs.Days.{refusedAt, days, readDesks, rowsOf}
 use Rattle.several.specs.declared.SeveralAnswer.the-variants as several-answer
 use Rattle.several.specs.Calls.{desksOf, choiceOutcome, daysOutcome, booksOutcome, severalCall}
 

@@ -13,7 +13,8 @@ use Rattle.results.specs.Results.{written}
 use Rattle.outcomes.specs.Planning.{Outcome, gives, Planning}
 use Rattle.calls.specs.Planned.{planned}
 use Rattle.overtime.specs.Choices.{Chosen, bestChoice, openChoices}
-use Rattle.several_books.specs.Lent.{booksOf, lentAmiss, DesksRead, refusedAt, days, readDesks, rowsOf, openLent}
+use Rattle.several_lent.specs.Lent.{booksOf, lentAmiss, openLent}
+use Rattle.several_books.specs.Days.{DesksRead, refusedAt, days, readDesks, rowsOf, openDays}
 use Rattle.several.specs.declared.SeveralAnswer.{SeveralAnswer}
 use Rattle.several.specs.declared.SeveralAnswer.the-variants as several-answer
 
@@ -46,5 +47,5 @@ severalCall opening books lengths closings limit b = elim (lentAmiss opening (le
 
 -- Opens every definition of this file: name it on an `unfolding` line where all is to be computed.
 unfoldable pub openSeveral : Unit {0}
-unfolding openChoices openLent choiceOutcome daysOutcome booksOutcome severalCall
+unfolding openChoices openLent openDays choiceOutcome daysOutcome booksOutcome severalCall
 openSeveral = tt

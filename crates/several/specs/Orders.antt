@@ -9,7 +9,7 @@ use Rattle.schedule.specs.Offset.{lowered}
 use Rattle.schedule.specs.Columns.{at}
 use Rattle.overtime.specs.Choices.{orEmpty}
 use Rattle.choice.specs.Lists.{latesAt, placeAt}
-use Rattle.several_books.specs.Lent.{rowsOf}
+use Rattle.several_books.specs.Days.{rowsOf}
 use Rattle.several_books.specs.Held.{slotAt, planningAt, Ready, DaysHeld}
 
 -- The rows of the first d desks.

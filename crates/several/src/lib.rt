@@ -109,7 +109,7 @@ pub fn several(
     ensures { λ r. ⌜ gives r (now (result .exit)) ≡
         severalCall opening (now (books .entry)) (now (lengths .entry)) (now (closings .entry)) limit (now (result .entry)) ⌝ }
 {
-    if several_books::lent_amiss(opening, books.len(), lengths, closings, limit) {
+    if several_lent::lent_amiss(opening, books.len(), lengths, closings, limit) {
         return SeveralAnswer::Refused(Tested::RANGE, 0, 0);
     }
     let mut free: [u32; Desks::MOST] = [0; Desks::MOST];

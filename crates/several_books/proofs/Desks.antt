@@ -18,9 +18,10 @@ use Rattle.readers.specs.declared.Terms.{Terms}
 use Rattle.readers.specs.Reads.{readBy, outcomeOf}
 use Rattle.several_books.specs.declared.AllRead.the-variants as all-read
 use Rattle.several_books.specs.declared.AllRead.{AllRead}
-use Rattle.several_books.specs.Lent.{booksOf, total, DesksRead, refusedAt, days, dayInFront, withRest, readDesks, rowsOf}
+use Rattle.several_lent.specs.Lent.{booksOf, total}
+use Rattle.several_books.specs.Days.{DesksRead, refusedAt, days, dayInFront, withRest, readDesks, rowsOf}
 use Rattle.several_books.specs.Held.{Slot, slotAt, Holds, Sized, ReadInto, noDay, DaysHeld, allReadOf, ReadAll}
-use Rattle.several_books.proofs.Sums.{total-next}
+use Rattle.several_lent.proofs.Sums.{total-next}
 
 -- What a test says of the contents.
 refused-by : (x : Contents) (n p : ℕ) → Refused n p ≡ outcomeOf x → x ≡ refused n p

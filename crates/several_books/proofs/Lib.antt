@@ -1,4 +1,3 @@
-pub mod Sums
 pub mod Slots
 pub mod Reading
 pub mod Desks

@@ -20,7 +20,7 @@ use Rattle.outcomes.specs.Plannable.{Plannable}
 use Rattle.choice.specs.Lists.{endsAt, latesAt, ListedAt}
 use Rattle.several_books.specs.declared.AllRead.{AllRead}
 use Rattle.several_books.specs.declared.AllRead.the-variants as all-read
-use Rattle.several_books.specs.Lent.{DesksRead, refusedAt, days, readDesks, rowsOf}
+use Rattle.several_books.specs.Days.{DesksRead, refusedAt, days, readDesks, rowsOf}
 
 -- What is held of one desk: its free minute, how many rows and plans it has, its rows in columns, and its list.
 pub record Slot : Type 0 where

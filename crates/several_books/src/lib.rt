@@ -1,11 +1,10 @@
-// The books of several desks, lent end to end in one run: what must be right of all that is lent, and the rows and the list of each desk,
-// read desk by desk.
+// The books of several desks, lent end to end in one run: the rows and the list of each desk, read desk by desk.
 ghost use mathlib.Core.Path.{_≡_};
 ghost use Prim.Native.Nat.{_≤_, _<_};
 ghost use lib.ListN.{length};
-ghost use Rattle.schedule.specs.Limits.{mostOpening, mostDesks};
+ghost use Rattle.schedule.specs.Limits.{mostDesks};
 ghost use Rattle.readers.specs.Reads.{orderingRule};
-ghost use Rattle.several_books.specs.Lent.{total, allOpen, lentAmiss, booksOf};
+ghost use Rattle.several_lent.specs.Lent.{booksOf, total};
 ghost use Rattle.several_books.specs.Held.{Sized, ReadInto, ReadAll};
 use choice::Desks;
 use readers::Terms;
@@ -17,61 +16,6 @@ use schedule::Profile;
 pub enum AllRead {
     Rows(usize),
     Refused(u32, usize, u32),
-}
-
-// The lengths added up.
-fn sum_of(lengths: &[u32]) -> u64
-    requires { ⌜ length (now lengths) ≤ mostDesks ⌝ }
-    ensures { λ r. ⌜ r ≡ total (now (lengths .entry)) ⌝ }
-{
-    let mut sum: u64 = 0;
-    let mut d: usize = 0;
-    while d < lengths.len() {
-        sum += lengths[d] as u64;
-        d += 1;
-    }
-    sum
-}
-
-// Every closing minute is in its range.
-fn all_open(closings: &[u32]) -> bool
-    ensures { λ r. ⌜ r ≡ allOpen (now (closings .entry)) ⌝ }
-{
-    let mut d: usize = 0;
-    while d < closings.len() {
-        if Desks::CLOSING < closings[d] {
-            return false;
-        }
-        d += 1;
-    }
-    true
-}
-
-// Something that concerns no single book is wrong: the opening, the desks' count, the limit, a closing minute, or the lengths, which do
-// not add up to the run.
-pub fn lent_amiss(opening: u32, run: usize, lengths: &[u32], closings: &[u32], limit: u32) -> bool
-    ensures { λ r. ⌜ r ≡ lentAmiss opening run (now (lengths .entry)) (now (closings .entry)) limit ⌝ }
-{
-    if Desk::OPENING < opening {
-        return true;
-    }
-    if Desks::LIMIT < limit {
-        return true;
-    }
-    let desks = lengths.len();
-    if desks == 0 {
-        return true;
-    }
-    if Desks::MOST < desks {
-        return true;
-    }
-    if closings.len() != desks {
-        return true;
-    }
-    if !all_open(closings) {
-        return true;
-    }
-    sum_of(lengths) != (run as u64)
 }
 
 // The book of desk d, counted from 0: its rows and its list into their columns, or the refusal.

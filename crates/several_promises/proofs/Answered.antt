@@ -27,9 +27,10 @@ use Rattle.overtime.specs.Choices.{overtimes, greatestLate, firstWithin, firstP
 use Rattle.overtime.specs.Best.{pairsBy, Planned, Best, DesksPromise}
 use Rattle.overtime.proofs.Firsts.{FirstOf, first-of, firsts}
 use Rattle.overtime.proofs.Best.{several-desks}
-use Rattle.several_books.specs.Lent.{LentRight, lentAmiss, rowsOf}
+use Rattle.several_lent.specs.Lent.{LentRight, lentAmiss}
+use Rattle.several_books.specs.Days.{rowsOf}
 use Rattle.several_books.specs.Held.{noDay}
-use Rattle.several_books.proofs.Sums.{lent-right}
+use Rattle.several_lent.proofs.Sums.{lent-right}
 use Rattle.several.specs.Answers.{SaidOfDesks, saidSeveral, saidChosen}
 use Rattle.several.specs.declared.SeveralAnswer.{SeveralAnswer}
 use Rattle.several.specs.Calls.{desksOf, daysOutcome, severalCall}

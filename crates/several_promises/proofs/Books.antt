@@ -13,7 +13,8 @@ use Rattle.book.specs.Rows.{Contents, refused, accepted}
 use Rattle.readers.specs.declared.Terms.{Terms}
 use Rattle.readers.specs.Reads.{orderingRule, readBy}
 use Rattle.promises.proofs.Accepted.{takes}
-use Rattle.several_books.specs.Lent.{booksOf, total, DesksRead, refusedAt, days, dayInFront, withRest, readDesks}
+use Rattle.several_lent.specs.Lent.{booksOf, total}
+use Rattle.several_books.specs.Days.{DesksRead, refusedAt, days, dayInFront, withRest, readDesks}
 use Rattle.several_books.specs.Held.{noDay}
 use Rattle.several_books.proofs.Desks.{books-length, days-one}
 use Rattle.several_promises.specs.Table.{bookAt, TakesAll}

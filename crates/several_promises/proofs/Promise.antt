@@ -23,8 +23,9 @@ use Rattle.promises.proofs.Numbers.{ordering-numbered}
 use Rattle.overtime.specs.Choices.{lates, greatestLate, Chosen, bestChoice}
 use Rattle.overtime.specs.Best.{ChoiceOf}
 use Rattle.overtime.proofs.Least.{greatest-mem, greatest-above}
-use Rattle.several_books.specs.Lent.{booksOf, lentAmiss, DesksRead, refusedAt, days, readDesks, rowsOf}
-use Rattle.several_books.proofs.Sums.{lent-right}
+use Rattle.several_lent.specs.Lent.{booksOf, lentAmiss}
+use Rattle.several_books.specs.Days.{DesksRead, refusedAt, days, readDesks, rowsOf}
+use Rattle.several_lent.proofs.Sums.{lent-right}
 use Rattle.several.specs.declared.SeveralAnswer.{SeveralAnswer}
 use Rattle.several.specs.Answers.{SaidOfDesks, saidSeveral, saidChosen}
 use Rattle.several.specs.Calls.{desksOf, daysOutcome, severalCall}

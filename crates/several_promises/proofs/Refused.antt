@@ -19,8 +19,9 @@ use Rattle.outcomes.specs.Planning.{Outcome, gives}
 use Rattle.promises.proofs.Accepted.{takes, book-refused}
 use Rattle.promises.proofs.Numbers.{ordering-numbered}
 use Rattle.overtime.specs.Choices.{Chosen, bestChoice}
-use Rattle.several_books.specs.Lent.{booksOf, lentAmiss, LentRight, DesksRead, refusedAt, days, readDesks, rowsOf}
-use Rattle.several_books.proofs.Sums.{lent-right}
+use Rattle.several_lent.specs.Lent.{booksOf, lentAmiss, LentRight}
+use Rattle.several_books.specs.Days.{DesksRead, refusedAt, days, readDesks, rowsOf}
+use Rattle.several_lent.proofs.Sums.{lent-right}
 use Rattle.several.specs.declared.SeveralAnswer.{SeveralAnswer}
 use Rattle.several.specs.Answers.{SaidOfDesks, saidNoAt}
 use Rattle.several.specs.Calls.{desksOf, daysOutcome, severalCall}

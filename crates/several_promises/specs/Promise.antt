@@ -19,7 +19,7 @@ use Rattle.readers.specs.Reads.{orderingRule}
 use Rattle.promises.specs.Promise.{Lent}
 use Rattle.overtime.specs.Choices.{overtime, overtimes, greatestLate}
 use Rattle.overtime.specs.Best.{pairsBy, KeepLimit}
-use Rattle.several_books.specs.Lent.{rowsOf}
+use Rattle.several_books.specs.Days.{rowsOf}
 use Rattle.several_books.specs.Held.{noDay}
 use Rattle.several.specs.Answers.{SaidOfDesks, saidChosen, saidNoAt}
 use Rattle.several.specs.Calls.{desksOf}

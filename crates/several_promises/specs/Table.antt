@@ -15,7 +15,8 @@ use Rattle.outcomes.specs.Planning.{Outcome, gives}
 use Rattle.promises.specs.Vocabulary.{Refuses, Takes}
 use Rattle.promises.specs.Table.{BookRefused}
 use Rattle.overtime.specs.Best.{KeepLimit}
-use Rattle.several_books.specs.Lent.{total, LentRight, rowsOf}
+use Rattle.several_lent.specs.Lent.{total, LentRight}
+use Rattle.several_books.specs.Days.{rowsOf}
 use Rattle.several_books.specs.Held.{noDay}
 use Rattle.several.specs.Answers.{SaidOfDesks, saidSeveral}
 use Rattle.several.specs.Calls.{desksOf, severalCall}

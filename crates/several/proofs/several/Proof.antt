@@ -4,7 +4,7 @@ use native.Mathlib.Omega.{arith}
 use borrow.Author.Needs.{needs}
 use mathlib.Core.Path.{refl, sym, _∙_}
 use Rattle.readers.specs.Reads.{orderingRule}
-use Rattle.several_books.proofs.Sums.{lent-right}
+use Rattle.several_lent.proofs.Sums.{lent-right}
 use Rattle.several_books.proofs.Desks.{days-read, refusal-read}
 use Rattle.several.proofs.Days.{days-ready}
 use Rattle.several.proofs.Outcomes.{call-amiss, call-refused, call-days}

@@ -14,7 +14,7 @@ use borrow.Author.Tests.{lt-leb, le-leb, lt-ltb, le-ltb, eq-eqb, ne-eqb, leb-tru
 use Rattle.schedule.specs.Limits.{mostOpening, mostDesks, latestClosing, largestLimit}
 use Rattle.schedule.specs.Columns.{at}
 use Rattle.schedule.proofs.Tests.{false-is-true, neither}
-use Rattle.several_books.specs.Lent.{total, allOpen, lentAmiss, LentRight}
+use Rattle.several_lent.specs.Lent.{total, allOpen, lentAmiss, LentRight}
 
 -- From the place d on.
 module _ (xs : List ℕ) (d : ℕ) where

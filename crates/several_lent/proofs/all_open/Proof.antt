@@ -5,10 +5,10 @@ use native.Mathlib.Omega.{arith}
 use borrow.Author.Needs.{needs}
 use mathlib.Core.Path.{_≡_, refl, sym, _∙_}
 use lib.ListN.{length, drop}
-use Rattle.several_books.specs.Lent.{allOpen}
-use Rattle.several_books.proofs.Sums.{open-next, open-not, open-end}
-use Rattle.several_books.proofs.all_open.Statement.{statement}
-use Rattle.several_books.proofs.all_open.Tie as tie
+use Rattle.several_lent.specs.Lent.{allOpen}
+use Rattle.several_lent.proofs.Sums.{open-next, open-not, open-end}
+use Rattle.several_lent.proofs.all_open.Statement.{statement}
+use Rattle.several_lent.proofs.all_open.Tie as tie
 
 abbrev Inv-loop : tie.InvT-loop
 Inv-loop closings d₀ d = (d ≤ length closings) × (allOpen closings ≡ allOpen (drop d closings))

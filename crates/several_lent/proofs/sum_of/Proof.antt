@@ -5,10 +5,10 @@ use native.Mathlib.Omega.{arith}
 use borrow.Author.Needs.{needs}
 use mathlib.Core.Path.{_≡_}
 use lib.ListN.{length, drop}
-use Rattle.several_books.specs.Lent.{total}
-use Rattle.several_books.proofs.Sums.{total-next, total-end}
-use Rattle.several_books.proofs.sum_of.Statement.{statement}
-use Rattle.several_books.proofs.sum_of.Tie as tie
+use Rattle.several_lent.specs.Lent.{total}
+use Rattle.several_lent.proofs.Sums.{total-next, total-end}
+use Rattle.several_lent.proofs.sum_of.Statement.{statement}
+use Rattle.several_lent.proofs.sum_of.Tie as tie
 
 abbrev Inv-loop : tie.InvT-loop
 Inv-loop lengths sum₀ d₀ sum d = (d ≤ length lengths) × (sum + total (drop d lengths) ≡ total lengths) × (sum ≤ 4294967295 * d)

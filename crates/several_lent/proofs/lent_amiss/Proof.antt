@@ -6,12 +6,12 @@ use borrow.Author.Needs.{needs}
 use mathlib.Core.Bool.{not}
 use lib.Dec.{eqb}
 use mathlib.Core.Path.{sym, ap, _∙_}
-use Rattle.several_books.proofs.Sums.{by-opening, by-limit, by-none, by-many, by-count, by-closing, by-sum}
+use Rattle.several_lent.proofs.Sums.{by-opening, by-limit, by-none, by-many, by-count, by-closing, by-sum}
 use borrow.Author.Needs.{needs}
 use mathlib.Core.Path.{sym, ap, _∙_}
-use Rattle.several_books.proofs.Sums.{by-opening, by-limit, by-none, by-many, by-count, by-closing, by-sum}
-use Rattle.several_books.proofs.lent_amiss.Statement.{statement}
-use Rattle.several_books.proofs.lent_amiss.Tie as tie
+use Rattle.several_lent.proofs.Sums.{by-opening, by-limit, by-none, by-many, by-count, by-closing, by-sum}
+use Rattle.several_lent.proofs.lent_amiss.Statement.{statement}
+use Rattle.several_lent.proofs.lent_amiss.Tie as tie
 
 returns : tie.Need-returns
 returns c =
