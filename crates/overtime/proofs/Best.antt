@@ -3,7 +3,7 @@
 use Prim.Native.Nat.{ℕ, _≤_, _<_}
 use native.Mathlib.Omega.{arith}
 use mathlib.Core.Path.{_≡_, refl, sym, ap, _∙_, subst}
-use mathlib.Core.List.{List, [], _∷_, List·Memᴰ, List·Memᴰ·head, List·Memᴰ·tail}
+use mathlib.Core.List.{List, [], _∷_, List·Memᴰ, List·Memᴰ·head, List·Memᴰ·tail, Memᴰ·of-map}
 use mathlib.Core.Option.{Option, none, some, Option·some-injective, Option·none-ne-some}
 use lib.Dec.{T}
 use lib.ListN.{length, length-map}
@@ -17,9 +17,9 @@ use Rattle.schedule.proofs.Cover.{signed}
 use Rattle.outcomes.specs.Planning.{Planning}
 use Rattle.overtime.specs.Choices.{overtimes, lates, greatestLate, firstWithin, firstPlans, Within, orEmpty, planOrders, listsOf}
 use Rattle.overtime.specs.Choices.{Chosen, chosenFrom, bestPlans, bestChoice}
-use Rattle.overtime.specs.Best.{ChoiceOf, pairsBy, Planned, KeepLimit, Best, DesksPromise, SeveralDesks}
+use Rattle.overtime.specs.Best.{Measures, ChoiceOf, pairsBy, Planned, KeepLimit, Best, DesksPromise, SeveralDesks}
 use Rattle.overtime.proofs.Firsts.{AllRise, first-of, first-some, firsts, firsts-cons, taken, overtimes-less}
-use Rattle.overtime.proofs.Least.{greatest-kept, greatest-most, Chooses, chooses}
+use Rattle.overtime.proofs.Least.{greatest-mem, greatest-kept, greatest-most, greatest-above, Chooses, chooses}
 
 abbrev AllPlanned : List Planning → Type 0
 AllPlanned [] = Unit {0}
@@ -154,3 +154,13 @@ module _ (limit : ℕ) (closings : List ℕ) (ds : List Planning) (some-desk : 0
 
 pub several-desks : SeveralDesks
 several-desks limit closings desks even some-desk good = holds limit closings desks some-desk (all-planned desks good)
+
+pub measured : Measures
+unfolding overtimes
+measured = record {
+  no-overtime = λ end closing h. omega arith;
+  some-overtime = λ end closing h. omega arith;
+  added = λ c cs p ps. refl;
+  greatest-one = λ ps h. Memᴰ·of-map (λ (p : Pair). p .late) ps (greatest-mem ps h);
+  greatest-all = λ ps p m. signed (greatest-above ps p m);
+}

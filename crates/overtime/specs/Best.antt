@@ -1,6 +1,6 @@
 -- Several desks: what a choice of orders is and comes to, and what is promised of the one that is made. The proof of `SeveralDesks` is
 -- `several-desks`, in proofs/Best.antt. Rests on: Choices, the schedule's cover.
-use Prim.Native.Nat.{ℕ, _≤_, _<_}
+use Prim.Native.Nat.{ℕ, _+_, _≤_, _<_}
 use mathlib.Core.Path.{_≡_}
 use mathlib.Core.List.{List, [], _∷_, List·Memᴰ}
 use mathlib.Core.Logic.{_↔_}
@@ -11,7 +11,15 @@ use Rattle.schedule.specs.Desk.{Pair, OrderOf, pairOf}
 use Rattle.schedule.specs.Plans.{plans}
 use Rattle.schedule.specs.Cover.{PlansPromise}
 use Rattle.outcomes.specs.Planning.{Planning}
-use Rattle.overtime.specs.Choices.{overtimes, greatestLate, firstPlans, planOrders, listsOf, Chosen, bestChoice}
+use Rattle.overtime.specs.Choices.{overtime, overtimes, greatestLate, firstPlans, planOrders, listsOf, Chosen, bestChoice}
+
+-- Overtime is how far an end passes closing, or 0, and overtimes add up. The greatest of some latenesses is one of them, and none is greater.
+pub record Measures : Type 0 where
+  pub no-overtime : (end closing : ℕ) → end ≤ closing → overtime end closing ≡ 0
+  pub some-overtime : (end closing : ℕ) → closing ≤ end → closing + overtime end closing ≡ end
+  pub added : (c : ℕ) (cs : List ℕ) (p : Pair) (ps : List Pair) → overtimes (c ∷ cs) (p ∷ ps) ≡ overtime (p .end) c + overtimes cs ps
+  pub greatest-one : (ps : List Pair) → 1 ≤ length ps → (p : Pair) × List·Memᴰ p ps × (p .late ≡ greatestLate ps)
+  pub greatest-all : (ps : List Pair) (p : Pair) → List·Memᴰ p ps → p .late ≤ℤ greatestLate ps
 
 -- A choice: an order of its rows for each desk; and the pairs that they come to.
 abbrev pub ChoiceOf : List Planning → (orders : List (List ℕ)) → Type 0

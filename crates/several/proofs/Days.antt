@@ -31,7 +31,8 @@ use Rattle.several_books.specs.Days.{rowsOf}
 use Rattle.several_books.specs.Held.{Slot, slotAt, planningAt, Holds, noDay, ReadAll}
 use Rattle.several_books.proofs.Desks.{rows-more, books-length, DaysOf}
 use Rattle.several.specs.declared.SeveralAnswer.the-variants as several-answer
-use Rattle.several.specs.Orders.{rowsTo, orderAt, ordersTo, CanOrder, DaysReady}
+use Rattle.several_orders.specs.Orders.{rowsTo, orderAt, ordersTo, CanOrder}
+use Rattle.several.specs.Ready.{DaysReady}
 use Rattle.several.specs.Calls.{desksOf, daysOutcome}
 use Rattle.several.proofs.Outcomes.{days-narrow, days-none, days-some}
 

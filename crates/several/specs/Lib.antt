@@ -1,3 +1,3 @@
-pub mod Orders
+pub mod Ready
 pub mod Calls
 pub mod Answers

@@ -1,63 +1,24 @@
 // Several desks, one overtime limit: the call offered to a bureau that plans its desks together. It has no `requires`, and its contract
 // gives its whole outcome: the answer, and every word of the result buffer at exit.
 ghost use mathlib.Core.Path.{_≡_};
-ghost use mathlib.Core.List.{List, flatten};
+ghost use mathlib.Core.List.{List};
 ghost use Prim.Native.Nat.{ℕ, _≤_};
 ghost use lib.ListN.{length};
 ghost use Rattle.schedule.specs.Limits.{mostDesks};
 ghost use Rattle.schedule.specs.Rows.{Day};
-ghost use Rattle.results.specs.Results.{written};
 ghost use Rattle.outcomes.specs.Planning.{gives};
-ghost use Rattle.several.specs.Orders.{rowsTo, ordersTo, CanOrder, DaysReady};
+ghost use Rattle.several.specs.Ready.{DaysReady};
 ghost use Rattle.several.specs.Calls.{daysOutcome, severalCall};
 use choice::Desks;
 use choice::Taken;
 use refusals::Tested;
 use schedule::Desk;
-use schedule::Profile;
 use several_books::AllRead;
 
 // The answer: the least greatest lateness and the overtimes added up; or the refusal with the desk that it concerns, from 1, 0 for none.
 pub enum SeveralAnswer {
     Chosen(i32, u32),
     Refused(u32, usize, u32),
-}
-
-// The orders of all desks, desk after desk: that of each desk's first listed plan within the bound.
-fn write_orders(
-    free: &[u32; Desks::MOST],
-    rows: &[usize; Desks::MOST],
-    plans: &[usize; Desks::MOST],
-    columns: &[[u32; Desk::PLACES]; Desks::COLUMNS],
-    fronts: &[[u32; Desk::ROWS]; Desks::FRONTS],
-    desks: usize,
-    bound: u32,
-    result: &mut [u32],
-)
-    requires { ⌜ (desks ≤ mostDesks) × CanOrder (now free) (now rows) (now plans) (now columns) (now fronts) bound desks ×
-        (rowsTo (now rows) desks ≤ length (now result)) ⌝ }
-    ensures { λ _. ⌜ now (result .exit) ≡
-        written (flatten (ordersTo (now (free .entry)) (now (rows .entry)) (now (plans .entry)) (now (columns .entry)) (now (fronts .entry))
-        bound desks)) (now (result .entry)) ⌝ }
-{
-    let mut at: usize = 0;
-    let mut d: usize = 0;
-    while d < desks {
-        let k = choice::past(&fronts[2 * d + 1], 0, plans[d], bound);
-        let late = fronts[2 * d + 1][k];
-        plans::order_for(
-            Profile::Ordering,
-            &columns[3 * d],
-            &columns[3 * d + 1],
-            &columns[3 * d + 2],
-            rows[d],
-            free[d],
-            late,
-            &mut result[at..],
-        );
-        at += rows[d];
-        d += 1;
-    }
 }
 
 // The answer for desks whose books are all read: the buffer is tested, then the plans are chosen, and their orders written.
@@ -84,7 +45,7 @@ fn days_answer(
     let Taken::Plans(late, sum) = choice::choose(plans, fronts, closings, limit) else {
         return SeveralAnswer::Refused(Tested::OVERTIME, 0, 0);
     };
-    write_orders(
+    several_orders::write_orders(
         free,
         rows,
         plans,

@@ -4,25 +4,21 @@ use native.Mathlib.Omega.{arith}
 use native.Mathlib.Decide.{decLe}
 use mathlib.Core.Bool.{Bool, true, false}
 use mathlib.Core.Path.{_≡_, refl, sym, ap, _∙_, subst}
-use mathlib.Core.List.{List, [], _∷_, flatten, List·Memᴰ, Memᴰ·map, Memᴰ·of-map}
+use mathlib.Core.List.{List, [], _∷_, flatten}
 use mathlib.Core.Logic.{_⊎_, inl, inr}
 use mathlib.Core.Option.{Option, none, some}
 use lib.ListN.{length, length-append}
-use lib.Signed.{_≤ℤ_}
 use Rattle.schedule.specs.Rows.{Day}
-use Rattle.schedule.specs.Desk.{Pair}
 use Rattle.schedule.proofs.Orders.{perm-count}
 use Rattle.schedule.proofs.Numbers.{length-count}
-use Rattle.schedule.proofs.Cover.{signed}
-use Rattle.schedule.proofs.Signed.{_≼_, leZ→}
 use Rattle.readers.specs.Reads.{orderingRule}
 use Rattle.outcomes.specs.Planning.{Outcome, gives, Planning}
 use Rattle.promises.specs.Promise.{Lent}
 use Rattle.promises.proofs.Memory.{Kept, kept-no, kept-yes}
 use Rattle.promises.proofs.Numbers.{ordering-numbered}
-use Rattle.overtime.specs.Choices.{lates, greatestLate, Chosen, bestChoice}
+use Rattle.overtime.specs.Choices.{Chosen, bestChoice}
 use Rattle.overtime.specs.Best.{ChoiceOf}
-use Rattle.overtime.proofs.Least.{greatest-mem, greatest-above}
+use Rattle.overtime.proofs.Best.{measured}
 use Rattle.several_lent.specs.Lent.{booksOf, lentAmiss}
 use Rattle.several_books.specs.Days.{DesksRead, refusedAt, days, readDesks, rowsOf}
 use Rattle.several_lent.proofs.Sums.{lent-right}
@@ -31,20 +27,10 @@ use Rattle.several.specs.Answers.{SaidOfDesks, saidSeveral, saidChosen}
 use Rattle.several.specs.Calls.{desksOf, daysOutcome, severalCall}
 use Rattle.several.proofs.Outcomes.{days-narrow, days-none, days-some, call-amiss, call-refused}
 use Rattle.several_promises.specs.Table.{several, TakesAll, Right, SeveralTurned, lent, book, narrow, overtime}
-use Rattle.several_promises.specs.Promise.{Measures, SeveralPromise}
+use Rattle.several_promises.specs.Promise.{SeveralPromise}
 use Rattle.several_promises.proofs.Books.{days-taken}
 use Rattle.several_promises.proofs.Answered.{promise, call-of-days, is-answered}
 use Rattle.several_promises.proofs.Refused.{exactly}
-
-measured : Measures
-measured = record {
-  no-overtime = λ end closing h. omega arith;
-  some-overtime = λ end closing h. omega arith;
-  greatest-one = λ ps h.
-      let u = Memᴰ·of-map (λ (p : Pair). p .late) ps (greatest-mem ps h) in
-      (u .0, u .1, u .2);
-  greatest-all = λ ps p m. signed (greatest-above ps p m);
-}
 
 -- The numbers that the conditions tell.
 numbers : {opening : ℕ} {books lengths closings : List ℕ} {limit : ℕ} {b : List ℕ} {n p d : ℕ} →

@@ -1,9 +1,9 @@
 -- Several desks, one overtime limit: what is promised of the call, for every opening, run of books, lengths, closing minutes, limit and
 -- buffer. The proof is `several-desks-hold`, in proofs/Promise.antt. That the function does what is said here of its call is its contract
 -- (several/src). Rests on: Table, choices of orders (overtime).
-use Prim.Native.Nat.{ℕ, _+_, _≤_, _<_}
+use Prim.Native.Nat.{ℕ, _≤_, _<_}
 use mathlib.Core.Path.{_≡_}
-use mathlib.Core.List.{List, [], flatten, List·Memᴰ}
+use mathlib.Core.List.{List, [], flatten}
 use mathlib.Core.Logic.{_↔_, _⊎_}
 use mathlib.Core.Option.{some}
 use lib.ListN.{length, getD}
@@ -17,21 +17,13 @@ use Rattle.outcomes.specs.Planning.{Outcome, gives, nth, Planning}
 use Rattle.calls.specs.Planned.{planned}
 use Rattle.readers.specs.Reads.{orderingRule}
 use Rattle.promises.specs.Promise.{Lent}
-use Rattle.overtime.specs.Choices.{overtime, overtimes, greatestLate}
-use Rattle.overtime.specs.Best.{pairsBy, KeepLimit}
+use Rattle.overtime.specs.Choices.{overtimes, greatestLate}
+use Rattle.overtime.specs.Best.{Measures, pairsBy, KeepLimit}
 use Rattle.several_books.specs.Days.{rowsOf}
 use Rattle.several_books.specs.Held.{noDay}
 use Rattle.several.specs.Answers.{SaidOfDesks, saidChosen, saidNoAt}
 use Rattle.several.specs.Calls.{desksOf}
 use Rattle.several_promises.specs.Table.{several, RefusesAt, TakesAll, Right, SeveralTurned}
-
--- # Overtime and the greatest lateness
--- Overtime is how far an end passes closing, or 0. The greatest of some latenesses is one of them, and no other is greater.
-pub record Measures : Type 0 where
-  pub no-overtime : (end closing : ℕ) → end ≤ closing → overtime end closing ≡ 0
-  pub some-overtime : (end closing : ℕ) → closing ≤ end → closing + overtime end closing ≡ end
-  pub greatest-one : (ps : List Pair) → 1 ≤ length ps → (p : Pair) × List·Memᴰ p ps × (p .late ≡ greatestLate ps)
-  pub greatest-all : (ps : List Pair) (p : Pair) → List·Memᴰ p ps → p .late ≤ℤ greatestLate ps
 
 -- # The best choice
 -- `KeepLimit orders`: an order of its rows for each desk, listed or not, whose overtimes add up to at most the limit. `pairsBy`: the end
@@ -69,6 +61,7 @@ pub data Answered (opening : ℕ) (closings : List ℕ) (limit : ℕ) (b : List 
 
 -- # What is promised
 pub record SeveralPromise : Type 0 where
+  -- Overtime is how far an end passes closing, or 0; overtimes add up; the greatest lateness is one of them, and none is greater.
   pub measures : Measures
   -- A refused call returns one of these numbers, and the buffer holds what it held; no call makes it longer or shorter.
   pub memory : (opening : ℕ) (books lengths closings : List ℕ) (limit : ℕ) (b : List ℕ) →

@@ -24,7 +24,7 @@ use Rattle.choice.specs.Lists.{latesAt, placeAt}
 use Rattle.choice.proofs.Taking.{map-last}
 use Rattle.several_books.specs.Held.{Slot, slotAt, planningAt, Ready}
 use Rattle.several_books.proofs.Reading.{at-mem}
-use Rattle.several.specs.Orders.{rowsTo, orderAt, ordersTo, CanOrder}
+use Rattle.several_orders.specs.Orders.{rowsTo, orderAt, ordersTo, CanOrder}
 
 -- The order of a listed plan: there is one, and it has every row.
 module _ (s : Slot) (r : Ready s) (k : ℕ) (h : k < s .plans) where

@@ -7,9 +7,9 @@ use lib.ListN.{length, length-take, length-drop}
 use Rattle.schedule.specs.Columns.{at}
 use borrow.Author.Needs.{needs}
 use Rattle.schedule.specs.Limits.{mostRows}
-use Rattle.several.proofs.Writing.{Written, written-none, written-more, written-all, same-room, room}
-use Rattle.several.proofs.write_orders.Statement.{statement}
-use Rattle.several.proofs.write_orders.Tie as tie
+use Rattle.several_orders.proofs.Writing.{Written, written-none, written-more, written-all, same-room, room}
+use Rattle.several_orders.proofs.write_orders.Statement.{statement}
+use Rattle.several_orders.proofs.write_orders.Tie as tie
 
 abbrev Inv-loop : tie.InvT-loop
 Inv-loop free rows plans columns fronts desks bound result₀ at₀ d₀ result at d =

@@ -1,16 +1,13 @@
 -- The orders of several desks as the code writes them, from what it holds of each. Only contracts cite it.
 -- Rests on: what is held of a desk (several_books), what is chosen (overtime).
 use Prim.Native.Nat.{ℕ, zero, suc, _+_, _≤_, _<_}
-use mathlib.Core.Path.{_≡_}
 use mathlib.Core.List.{List, map}
-use lib.ListN.{length}
-use Rattle.schedule.specs.Rows.{countFrom, Day}
+use Rattle.schedule.specs.Rows.{countFrom}
 use Rattle.schedule.specs.Offset.{lowered}
 use Rattle.schedule.specs.Columns.{at}
 use Rattle.overtime.specs.Choices.{orEmpty}
 use Rattle.choice.specs.Lists.{latesAt, placeAt}
-use Rattle.several_books.specs.Days.{rowsOf}
-use Rattle.several_books.specs.Held.{slotAt, planningAt, Ready, DaysHeld}
+use Rattle.several_books.specs.Held.{slotAt, planningAt, Ready}
 
 -- The rows of the first d desks.
 unfoldable pub rowsTo : (rows : List ℕ) → ℕ → ℕ
@@ -30,10 +27,3 @@ module _ (free rows plans : List ℕ) (columns fronts : List (List ℕ)) (bound 
   -- The first d desks can be planned, and each has a plan within the bound.
   abbrev pub CanOrder : ℕ → Type 0
   CanOrder d = (e : ℕ) → e < d → Ready (slotAt free rows plans columns fronts e) × (placeAt plans fronts bound e < at plans e)
-
--- The desks of these days, as many as there are closing minutes, with so many rows in all.
-pub record DaysReady (opening : ℕ) (ds : List Day) (free rows plans : List ℕ) (columns fronts : List (List ℕ)) (desks total : ℕ) : Type
-    0 where
-  pub many : length ds ≡ desks
-  pub summed : total ≡ rowsOf ds
-  pub held : DaysHeld opening ds free rows plans columns fronts
