@@ -27,7 +27,7 @@ pub record FirstOf (y : ℤ) (ps : List Pair) (p : Pair) : Type 0 where
 within-at : (y : ℤ) (p : Pair) (ps : List Pair) (b : Bool) → leZ (p .late) y ≡ b →
     firstWithin y (p ∷ ps) ≡ cond b (some p) (firstWithin y ps)
 unfolding firstWithin
-within-at y p ps b e = rw e
+within-at y p ps b e = ap (λ (t : Bool). cond t (some p) (firstWithin y ps)) e
 
 -- A pair that keeps the bound, and one that is not the first within it.
 above-not : (y : ℤ) (p q : Pair) → leZ (q .late) y ≡ false → p ≡ q → p .late ≼ y → ⊥
