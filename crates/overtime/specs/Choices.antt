@@ -1,7 +1,6 @@
 -- Several desks, one overtime limit: overtimes, and the plans and orders that are chosen. A desk is what is planned at it (`Planning`);
--- its
--- list of plans, its closing minute and its order stand at the same place of their lists. What a choice is and that this one is best:
--- Best.
+-- its list of plans, its closing minute and its order stand at the same place of their lists. What a choice is, and that this one is best,
+-- is said in Best.
 -- Rests on: the schedule's pairs, what is planned (outcomes).
 use Prim.Native.Nat.{ℕ, _+_, _-_}
 use mathlib.Core.Bool.{Bool, false, cond}

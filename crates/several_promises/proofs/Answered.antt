@@ -17,6 +17,7 @@ use Rattle.schedule.proofs.Tests.{is-true}
 use Rattle.schedule.proofs.Filling.{mapped-at}
 use Rattle.book.specs.Rows.{accepted}
 use Rattle.readers.specs.Reads.{orderingRule, readBy}
+use Rattle.readers.specs.Accepted.{AcceptedDay}
 use Rattle.readers.proofs.Accepted.{accepted-day}
 use Rattle.results.specs.Results.{written}
 use Rattle.outcomes.specs.Planning.{Outcome, gives, nth, Planning}
@@ -49,17 +50,22 @@ mem-at {A} past (y ∷ ys) {x} m = step (List·Memᴰ·cases-cons m) (λ n. mem-
     step (inl e) f = (0, omega arith, sym e)
     step (inr n) f = let u = f n in (suc (u .0), omega (arith, u .1), u .2)
 
--- Every desk of accepted books has the list by its definition and best orders.
+-- Every day of accepted books is an accepted day; so its desk has the list by its definition and best orders.
+pub all-accepted : (opening : ℕ) (books lengths : List ℕ) (ds : List Day) → TakesAll opening books lengths ds →
+    (day : Day) → List·Memᴰ day ds → AcceptedDay (orderingRule opening) day
+all-accepted opening books lengths ds t day m =
+    let terms = orderingRule opening in
+    let v = mem-at noDay ds m in
+    let w = t .each (v .0) (omega (arith, v .1, t .many)) in
+    let r = takes terms (bookAt lengths books (v .0)) (getD ds (v .0) noDay) .1 w in
+    subst (AcceptedDay terms) (v .2) (accepted-day terms (bookAt lengths books (v .0)) (getD ds (v .0) noDay) r)
+
 pub all-planned : (opening : ℕ) (books lengths : List ℕ) (ds : List Day) → TakesAll opening books lengths ds →
     (d : Planning) → List·Memᴰ d (desksOf opening ds) → Planned d
 all-planned opening books lengths ds t d m =
-    let terms = orderingRule opening in
-    let u = Memᴰ·of-map (planned terms) ds m in
-    let v = mem-at noDay ds (u .1) in
-    let w = t .each (v .0) (omega (arith, v .1, t .many)) in
-    let r = takes terms (bookAt lengths books (v .0)) (getD ds (v .0) noDay) .1 w in
-    let s = day-sound (accepted-day terms (bookAt lengths books (v .0)) (getD ds (v .0) noDay) r) in
-    subst Planned (ap (planned terms) (v .2) ∙ u .2) (s .front, s .promise)
+    let u = Memᴰ·of-map (planned (orderingRule opening)) ds m in
+    let s = day-sound (all-accepted opening books lengths ds t (u .0) (u .1)) in
+    subst Planned (u .2) (s .front, s .promise)
 
 -- The first plan within a bound, by its number.
 module _ (y : ℤ) where

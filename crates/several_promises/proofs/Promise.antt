@@ -1,23 +1,26 @@
 -- What is promised of the call for several desks holds. Assumes nothing.
-use Prim.Native.Nat.{ℕ, _+_, _≤_, _<_}
+use Prim.Native.Nat.{ℕ, _+_, _*_, _≤_, _<_}
 use native.Mathlib.Omega.{arith}
 use native.Mathlib.Decide.{decLe}
 use mathlib.Core.Bool.{Bool, true, false}
 use mathlib.Core.Path.{_≡_, refl, sym, ap, _∙_, subst}
-use mathlib.Core.List.{List, [], _∷_, flatten}
+use mathlib.Core.List.{List, [], _∷_, flatten, List·Memᴰ, List·Memᴰ·head, List·Memᴰ·tail}
 use mathlib.Core.Logic.{_⊎_, inl, inr}
 use mathlib.Core.Option.{Option, none, some}
 use lib.ListN.{length, length-append}
+use Rattle.schedule.specs.Limits.{latestBookEnd}
 use Rattle.schedule.specs.Rows.{Day}
 use Rattle.schedule.proofs.Orders.{perm-count}
 use Rattle.schedule.proofs.Numbers.{length-count}
 use Rattle.readers.specs.Reads.{orderingRule}
+use Rattle.readers.specs.Accepted.{AcceptedDay}
 use Rattle.outcomes.specs.Planning.{Outcome, gives, Planning}
 use Rattle.promises.specs.Promise.{Lent}
 use Rattle.promises.proofs.Memory.{Kept, kept-no, kept-yes}
+use Rattle.promises.proofs.Promise.{ranges}
 use Rattle.promises.proofs.Numbers.{ordering-numbered}
-use Rattle.overtime.specs.Choices.{Chosen, bestChoice}
-use Rattle.overtime.specs.Best.{ChoiceOf}
+use Rattle.overtime.specs.Choices.{overtimes, Chosen, bestChoice}
+use Rattle.overtime.specs.Best.{ChoiceOf, pairsBy}
 use Rattle.overtime.proofs.Best.{measured}
 use Rattle.several_lent.specs.Lent.{booksOf, lentAmiss}
 use Rattle.several_books.specs.Days.{DesksRead, refusedAt, days, readDesks, rowsOf}
@@ -29,7 +32,7 @@ use Rattle.several.proofs.Outcomes.{days-narrow, days-none, days-some, call-ami
 use Rattle.several_promises.specs.Table.{several, TakesAll, Right, SeveralTurned, lent, book, narrow, overtime}
 use Rattle.several_promises.specs.Promise.{SeveralPromise}
 use Rattle.several_promises.proofs.Books.{days-taken}
-use Rattle.several_promises.proofs.Answered.{promise, call-of-days, is-answered}
+use Rattle.several_promises.proofs.Answered.{all-accepted, promise, call-of-days, is-answered}
 use Rattle.several_promises.proofs.Refused.{exactly}
 
 -- The numbers that the conditions tell.
@@ -50,6 +53,17 @@ choice-rows opening (d ∷ ds) [] c = absurd c
 choice-rows opening (d ∷ ds) (o ∷ os) c =
     length-append o (flatten os) ∙
     omega (arith, perm-count (c .0) .0, length-count 1 (length (d .rows)), choice-rows opening ds os (c .1))
+
+-- Overtimes of days whose rows are in range.
+most : (opening : ℕ) (closings : List ℕ) (ds : List Day) → ((day : Day) → List·Memᴰ day ds → AcceptedDay (orderingRule opening) day) →
+    (orders : List (List ℕ)) → ChoiceOf (desksOf opening ds) orders →
+    overtimes closings (pairsBy (desksOf opening ds) orders) ≤ latestBookEnd * length ds
+unfolding overtimes pairsBy
+most opening [] ds a os c = omega arith
+most opening (k ∷ ks) [] a os c = omega arith
+most opening (k ∷ ks) (d ∷ ds) a [] c = absurd c
+most opening (k ∷ ks) (d ∷ ds) a (o ∷ os) c =
+    omega (arith, ranges (a d (List·Memᴰ·head refl)) o (c .0) .0, most opening ks ds (λ day m. a day (List·Memᴰ·tail m)) os (c .1))
 
 -- Buffers.
 module _ (opening : ℕ) (books lengths closings : List ℕ) (limit : ℕ) (b : List ℕ) where
@@ -108,4 +122,6 @@ several-desks-hold = record {
   refused = exactly;
   answered = λ opening books lengths closings limit b ds right t wide.
       is-answered opening books lengths closings limit b ds right t wide;
+  most-overtime = λ opening books lengths closings ds t orders c.
+      most opening closings ds (all-accepted opening books lengths ds t) orders c;
 }

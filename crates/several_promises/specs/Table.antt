@@ -1,6 +1,5 @@
 -- The table of refusals of the call for several desks: under which condition it is refused, with the place and the desk. What is lent
--- amiss
--- comes first, then the books desk by desk, then 9, then 16. The proof is in proofs/Refused.antt.
+-- amiss comes first, then the books desk by desk, then 9, then 16. The proof is in proofs/Refused.antt.
 -- Rests on: what is lent (several_books), the table of a book's refusals (promises), choices of orders (overtime).
 use Prim.Native.Nat.{ℕ, _+_, _≤_, _<_}
 use mathlib.Core.Path.{_≡_}

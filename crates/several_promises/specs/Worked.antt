@@ -71,8 +71,7 @@ chosen y o b = gives (saidChosen y o) b
 abbrev pub bureaus : List Bureau
 bureaus =
     -- Two desks with M1's rows, closing at 11 and 20. Without overtime desk 1 must end by 11 and is 6 late; desk 2 takes its first plan
-    -- that
-    -- is at most 6 late. With one minute both take their second plan, 0 late. The buffer's last word holds what it held.
+    -- that is at most 6 late. With one minute both take their second plan, 0 late. The buffer's last word holds what it held.
     bureau (twoRows 12 ∷ twoRows 12 ∷ []) (11 ∷ 20 ∷ []) 0 (7 ∷ 7 ∷ 7 ∷ 7 ∷ 7 ∷ []) (chosen (pos 6) 0 (2 ∷ 1 ∷ 2 ∷ 1 ∷ 7 ∷ [])) ∷
     bureau (twoRows 12 ∷ twoRows 12 ∷ []) (11 ∷ 20 ∷ []) 1 zeros (chosen (pos 0) 1 (1 ∷ 2 ∷ 1 ∷ 2 ∷ [])) ∷
     -- The overtimes of both desks count: 1 and 1 pass a limit of 1. (2 is their sum where both take their second plan.)
