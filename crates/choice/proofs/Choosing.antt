@@ -1,14 +1,13 @@
 -- Asking several lists with ever smaller bounds: what is known so far, and where it ends.
 -- Assumes nothing.
-use Prim.Native.Nat.{ℕ, zero, suc, _+_, _-_, _*_, _≤_, _<_}
+use Prim.Native.Nat.{ℕ, zero, suc, _+_, _-_, _≤_, _<_}
 use native.Mathlib.Omega.{arith}
 use mathlib.Core.Bool.{false}
 use mathlib.Core.Path.{_≡_, refl, sym, ap, ap₂, _∙_, subst}
 use mathlib.Core.List.{List, [], _∷_, map, List·Memᴰ, List·Memᴰ·not-nil, List·Memᴰ·cases-cons, List·Memᴰ·append-cases}
 use mathlib.Core.Logic.{_⊎_, inl, inr}
 use mathlib.Core.Option.{Option, none, some}
-use lib.Dec.{T, le→leb}
-use lib.ListN.{length, length-map, take, getD, replicate, length-replicate, getD-replicate}
+use lib.ListN.{length, length-map, take, replicate, length-replicate, getD-replicate}
 use lib.Seq.{length-take-le, getD-take}
 use lib.IntN.{ℤ, predℤ}
 use borrow.Author.Tests.{lt-leb}
@@ -22,13 +21,13 @@ use Rattle.schedule.proofs.Signed.{_≼_, sub-level}
 use Rattle.schedule.proofs.SignedWords.{raised-lowered}
 use Rattle.search.proofs.Signs.{lowered-pred}
 use Rattle.refusals.proofs.Tests.{never}
-use Rattle.listing.specs.Fronts.{pairAt, pairsOf}
-use Rattle.overtime.specs.Choices.{overtimes, lates, greatestLate, firstPlans, keepsLimit, listedLates, Within, bestPlans}
+use Rattle.listing.specs.Fronts.{pairsOf}
+use Rattle.overtime.specs.Choices.{overtimes, lates, greatestLate, firstPlans, keepsLimit, listedLates, LeastPlans, bestPlans}
 use Rattle.overtime.proofs.Firsts.{AllRise}
 use Rattle.overtime.proofs.Least.{own, stops, never-keeps, Chooses, chooses}
 use Rattle.choice.specs.declared.Taken.{Taken}
 use Rattle.choice.specs.declared.Taken.the-variants as variants
-use Rattle.choice.specs.Lists.{endsAt, latesAt, listAt, listsIn, ListedAt, Listed, placeAt, Behind, takenOf, takenBy, bestOf}
+use Rattle.choice.specs.Lists.{endsAt, latesAt, listAt, listsIn, ListedAt, Listed, Behind, takenOf, takenBy, bestOf}
 use Rattle.choice.proofs.Places.{place-smaller}
 
 -- A lateness of pairs in columns is one of the column's, lowered.
@@ -184,16 +183,16 @@ module _ (plans : List ℕ) (fronts : List (List ℕ)) (closings : List ℕ) (li
       goes late sum e h = goes-with here refl late sum e h
 
     -- What is known of the plans that are chosen: the limit is kept, and the lateness comes back from what it is raised to.
-    pub record Best (w : Within) : Type 0 where
+    pub record Known (w : LeastPlans) : Type 0 where
       pub first : firstPlans (lowered (raised (w .late))) lists ≡ some (w .plans)
       pub late : lowered (raised (w .late)) ≡ w .late
       pub kept : overtimes closings (w .plans) ≤ limit
 
-    best-for : (o : Option Within) → Chooses limit closings lists some-list rise o → (w : Within) → o ≡ some w → Best w
+    best-for : (o : Option LeastPlans) → Chooses limit closings lists some-list rise o → (w : LeastPlans) → o ≡ some w → Known w
     best-for none c w e = never (cc)
     best-for (some v) c w e =
         let same : v ≡ w = cc in
-        subst Best same (
+        subst Known same (
         let o = own limit closings lists some-list rise (v .late) (v .plans) (c .first) (c .kept) in
         let r = in-range (subst (λ (z : ℤ). List·Memᴰ z (listedLates lists)) (c .late) (o .listed)) in
         let back : lowered (raised (v .late)) ≡ v .late = ap (λ (z : ℤ). lowered (raised z)) (r .is) ∙
@@ -205,7 +204,7 @@ module _ (plans : List ℕ) (fronts : List (List ℕ)) (closings : List ℕ) (li
         }
         )
 
-    pub best : (w : Within) → bestPlans limit closings lists ≡ some w → Best w
+    pub best : (w : LeastPlans) → bestPlans limit closings lists ≡ some w → Known w
     best w e = best-for (bestPlans limit closings lists) (chooses limit closings lists some-list rise) w e
 
 -- Cursors at the beginning, and with a smaller bound.

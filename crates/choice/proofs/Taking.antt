@@ -9,9 +9,8 @@ use mathlib.Core.Path.{_≡_, refl, sym, ap, ap₂, _∙_, subst}
 use mathlib.Core.List.{List, [], _∷_, _++_, map, map-append}
 use mathlib.Core.Option.{Option, none, some}
 use lib.Dec.{leb}
-use lib.ListN.{length, length-map, length-set, take, getD, set}
+use lib.ListN.{length, length-map, length-set, take, set}
 use lib.IntN.{ℤ}
-use lib.Signed.{leZ}
 use lib.Seq.{length-take-le, getD-take, take-suc, take-length, getD-set-same, getD-set-other}
 use Rattle.schedule.specs.Limits.{mostRows, mostDesks}
 use Rattle.schedule.specs.Rows.{countFrom}

@@ -14,7 +14,7 @@ use Rattle.schedule.specs.Cover.{Rising}
 use Rattle.schedule.specs.Offset.{raised}
 use Rattle.schedule.specs.Columns.{at}
 use Rattle.listing.specs.Fronts.{pairsOf}
-use Rattle.overtime.specs.Choices.{overtimes, greatestLate, Within, bestPlans}
+use Rattle.overtime.specs.Choices.{overtimes, greatestLate, LeastPlans, bestPlans}
 use Rattle.choice.specs.declared.Taken.{Taken}
 use Rattle.choice.specs.declared.Taken.the-variants as taken
 
@@ -60,7 +60,7 @@ unfoldable pub takenOf : (closings : List ℕ) → Option (List Pair) → Taken
 takenOf closings none = taken.None
 takenOf closings (some ps) = taken.Plans (raised (greatestLate ps)) (overtimes closings ps)
 
-unfoldable pub takenBy : (closings : List ℕ) → Option Within → Taken
+unfoldable pub takenBy : (closings : List ℕ) → Option LeastPlans → Taken
 takenBy closings none = taken.None
 takenBy closings (some w) = taken.Plans (raised (w .late)) (overtimes closings (w .plans))
 

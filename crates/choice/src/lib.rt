@@ -1,6 +1,6 @@
 // The plans that several desks take within one overtime limit, of their lists in columns: ends and latenesses, the latter raised by 2^31.
 ghost use mathlib.Core.Path.{_≡_};
-ghost use Prim.Native.Nat.{_≤_, max};
+ghost use Prim.Native.Nat.{_≤_};
 ghost use lib.ListN.{length, take};
 ghost use Rattle.schedule.specs.Limits.{mostRows, mostDesks};
 ghost use Rattle.schedule.specs.Offset.{lowered};
@@ -57,13 +57,6 @@ fn over(end: u32, closing: u32) -> u32
     if end < closing { 0 } else { end - closing }
 }
 
-// The greater of two latenesses.
-fn greater(a: u32, b: u32) -> u32
-    ensures { λ r. ⌜ r ≡ max a b ⌝ }
-{
-    if a < b { b } else { a }
-}
-
 // Each desk's first listed plan within the bound. The cursor of each desk goes forward to it, and is never past it.
 fn first_plans(
     plans: &[usize; Desks::MOST],
@@ -89,7 +82,7 @@ fn first_plans(
             return Taken::None;
         }
         cursors[d] = k;
-        late = greater(late, fronts[2 * d + 1][k]);
+        late = schedule::later(late, fronts[2 * d + 1][k]);
         sum += over(fronts[2 * d][k], closings[d]) as u64;
         d += 1;
     }

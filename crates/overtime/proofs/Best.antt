@@ -15,21 +15,21 @@ use Rattle.schedule.proofs.Signed.{_≼_, leZ→}
 use Rattle.schedule.proofs.Tests.{parts}
 use Rattle.schedule.proofs.Cover.{signed}
 use Rattle.outcomes.specs.Planning.{Planning}
-use Rattle.overtime.specs.Choices.{overtimes, lates, greatestLate, firstWithin, firstPlans, Within, orEmpty, planOrders, listsOf}
+use Rattle.overtime.specs.Choices.{overtimes, lates, greatestLate, firstWithin, firstPlans, LeastPlans, orEmpty, planOrders, listsOf}
 use Rattle.overtime.specs.Choices.{Chosen, chosenFrom, bestPlans, bestChoice}
-use Rattle.overtime.specs.Best.{Measures, ChoiceOf, pairsBy, Planned, KeepLimit, Best, DesksPromise, SeveralDesks}
-use Rattle.overtime.proofs.Firsts.{AllRise, first-of, first-some, firsts, firsts-cons, taken, overtimes-less}
+use Rattle.overtime.specs.Best.{Measures, ChoiceOf, pairsBy, HasPromise, KeepLimit, Best, DesksPromise, SeveralDesks}
+use Rattle.overtime.proofs.Firsts.{AllRise, first-of, first-some, firsts, firsts-cons, firsts-of, overtimes-less}
 use Rattle.overtime.proofs.Least.{greatest-mem, greatest-kept, greatest-most, greatest-above, Chooses, chooses}
 
 abbrev AllPlanned : List Planning → Type 0
 AllPlanned [] = Unit {0}
-AllPlanned (d ∷ ds) = Planned d × AllPlanned ds
+AllPlanned (d ∷ ds) = HasPromise d × AllPlanned ds
 
-all-planned : (ds : List Planning) → ((d : Planning) → List·Memᴰ d ds → Planned d) → AllPlanned ds
+all-planned : (ds : List Planning) → ((d : Planning) → List·Memᴰ d ds → HasPromise d) → AllPlanned ds
 all-planned [] h = tt
 all-planned (d ∷ ds) h = (h d (List·Memᴰ·head refl), all-planned ds (λ e m. h e (List·Memᴰ·tail m)))
 
-rises : (d : Planning) → Planned d → Rising (d .plans)
+rises : (d : Planning) → HasPromise d → Rising (d .plans)
 rises d g = rw (g .0) (g .1 .rising)
 
 pub all-rise : (ds : List Planning) → AllPlanned ds → AllRise (listsOf ds)
@@ -67,7 +67,7 @@ record Attained (ds : List Planning) (ps : List Pair) : Type 0 where
   chosen : ChoiceOf ds (planOrders ds ps)
   pairs : pairsBy ds (planOrders ds ps) ≡ ps
 
-attained-cons : (y : ℤ) (d : Planning) (ds : List Planning) (p : Pair) (ps : List Pair) → Planned d → firstWithin y (d .plans) ≡ some p →
+attained-cons : (y : ℤ) (d : Planning) (ds : List Planning) (p : Pair) (ps : List Pair) → HasPromise d → firstWithin y (d .plans) ≡ some p →
     Attained ds ps → Attained (d ∷ ds) (p ∷ ps)
 unfolding pairsBy planOrders
 attained-cons y d ds p ps g e r =
@@ -111,11 +111,11 @@ module _ (limit : ℕ) (closings : List ℕ) (ds : List Planning) (some-desk : 0
   covered os k =
       let y : ℤ = greatestLate (pairsBy ds os) in
       let u = cover-plans y ds os good (k .0) (greatest-kept (pairsBy ds os) (omega (arith, pairs-length ds os (k .0)))) in
-      let t = taken y (listsOf ds) rise (u .0) (u .1) in
+      let t = firsts-of y (listsOf ds) rise (u .0) (u .1) in
       let l = greatest-most y (u .0) (omega (arith, t .many, some-list)) (t .kept) in
       (y, u .0, u .1, omega (arith, u .2 closings, k .1), l)
 
-  best-of : (w : Within) → Chooses limit closings (listsOf ds) some-list rise (some w) →
+  best-of : (w : LeastPlans) → Chooses limit closings (listsOf ds) some-list rise (some w) →
       Best limit closings ds (record { late = w .late; overtime = overtimes closings (w .plans); orders = planOrders ds (w .plans) })
   best-of w f =
       let r = attained (w .late) ds good (w .plans) (f .first) in
@@ -128,19 +128,19 @@ module _ (limit : ℕ) (closings : List ℕ) (ds : List Planning) (some-desk : 0
         ordered = ap (planOrders ds) (r .pairs);
       }
 
-  abbrev Chooses-here : Option Within → Type 0
+  abbrev Chooses-here : Option LeastPlans → Type 0
   Chooses-here = Chooses limit closings (listsOf ds) some-list rise
 
-  found : (o : Option Within) → Chooses-here o → (a : Chosen) → chosenFrom closings ds o ≡ some a → Best limit closings ds a
+  found : (o : Option LeastPlans) → Chooses-here o → (a : Chosen) → chosenFrom closings ds o ≡ some a → Best limit closings ds a
   found none f a e = absurd (Option·none-ne-some a e)
   found (some w) f a e = subst (Best limit closings ds) (Option·some-injective _ a e) (best-of w f)
 
-  nothing : (o : Option Within) → Chooses-here o → chosenFrom closings ds o ≡ none → (os : List (List ℕ)) →
+  nothing : (o : Option LeastPlans) → Chooses-here o → chosenFrom closings ds o ≡ none → (os : List (List ℕ)) →
       ¬ KeepLimit limit closings ds os
   nothing none f e os k = let u = covered os k in f (u .0) (u .1) (u .2) (u .3)
   nothing (some w) f e os k = Option·none-ne-some _ (sym e)
 
-  empty : (o : Option Within) → Chooses-here o → ((os : List (List ℕ)) → ¬ KeepLimit limit closings ds os) →
+  empty : (o : Option LeastPlans) → Chooses-here o → ((os : List (List ℕ)) → ¬ KeepLimit limit closings ds os) →
       chosenFrom closings ds o ≡ none
   empty none f h = refl
   empty (some w) f h = absurd (h (planOrders ds (w .plans)) (best-of w f .kept))

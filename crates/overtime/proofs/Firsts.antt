@@ -103,15 +103,15 @@ unfolding firstPlans
 firsts-cons y l ls e f = rw (e, f)
 
 -- They are late by at most y, and their latenesses are listed.
-pub record Taken (y : ℤ) (lists : List (List Pair)) (ps : List Pair) : Type 0 where
+pub record FirstsOf (y : ℤ) (lists : List (List Pair)) (ps : List Pair) : Type 0 where
   pub kept : T (atMost y (lates ps))
   pub listed : (z : ℤ) → List·Memᴰ z (lates ps) → List·Memᴰ z (listedLates lists)
   pub many : length ps ≡ length lists
 
-taken-cons : (y : ℤ) (l : List Pair) (ls : List (List Pair)) (p : Pair) (ps : List Pair) → FirstOf y l p → Taken y ls ps →
-    Taken y (l ∷ ls) (p ∷ ps)
+firsts-of-cons : (y : ℤ) (l : List Pair) (ls : List (List Pair)) (p : Pair) (ps : List Pair) → FirstOf y l p → FirstsOf y ls ps →
+    FirstsOf y (l ∷ ls) (p ∷ ps)
 unfolding atMost listedLates
-taken-cons y l ls p ps f r = record {
+firsts-of-cons y l ls p ps f r = record {
   kept = both (leZ (p .late) y) (atMost y (lates ps)) (→leZ (p .late) y (f .kept)) (r .kept);
   listed = λ z m. here z (List·Memᴰ·cases-cons m);
   many = omega (arith, r .many);
@@ -123,13 +123,13 @@ taken-cons y l ls p ps f r = record {
         (subst (λ (x : ℤ). List·Memᴰ x (lates l)) (sym h) (Memᴰ·map (λ (q : Pair). q .late) (f .listed)))
     here z (inr n) = Memᴰ·append-right (lates l) (r .listed z n)
 
-pub taken : (y : ℤ) (lists : List (List Pair)) → AllRise lists → (ps : List Pair) → firstPlans y lists ≡ some ps → Taken y lists ps
-taken y [] g ps e = unfold firstPlans atMost in
-    subst (Taken y []) (Option·some-injective [] ps e) (record { kept = tt; listed = λ z m. absurd (List·Memᴰ·not-nil m); many = refl })
-taken y (l ∷ ls) g ps e =
+pub firsts-of : (y : ℤ) (lists : List (List Pair)) → AllRise lists → (ps : List Pair) → firstPlans y lists ≡ some ps → FirstsOf y lists ps
+firsts-of y [] g ps e = unfold firstPlans atMost in
+    subst (FirstsOf y []) (Option·some-injective [] ps e) (record { kept = tt; listed = λ z m. absurd (List·Memᴰ·not-nil m); many = refl })
+firsts-of y (l ∷ ls) g ps e =
     let u = firsts y l ls ps e in
-    subst (Taken y (l ∷ ls)) (u .4)
-    (taken-cons y l ls (u .0) (u .1) (first-of y l (g .0) (u .0) (u .2)) (taken y ls (g .1) (u .1) (u .3)))
+    subst (FirstsOf y (l ∷ ls)) (u .4)
+    (firsts-of-cons y l ls (u .0) (u .1) (first-of y l (g .0) (u .0) (u .2)) (firsts-of y ls (g .1) (u .1) (u .3)))
 
 -- They are the first for a smaller bound too that they keep.
 pub plans-smaller : (y z : ℤ) → z ≼ y → (lists : List (List Pair)) (ps : List Pair) → firstPlans y lists ≡ some ps →

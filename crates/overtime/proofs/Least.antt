@@ -7,7 +7,7 @@ use mathlib.Core.Bool.{Bool, true, false, cond}
 use mathlib.Core.Path.{_≡_, refl, sym, ap, _∙_, subst}
 use mathlib.Core.List.{List, [], _∷_, List·Memᴰ, List·Memᴰ·head, List·Memᴰ·tail, List·Memᴰ·not-nil, List·Memᴰ·cases-cons, Memᴰ·map}
 use mathlib.Core.Logic.{_⊎_, inl, inr}
-use mathlib.Core.Option.{Option, none, some, Option·some-injective, Option·none-ne-some}
+use mathlib.Core.Option.{Option, none, some}
 use lib.Dec.{T, leb→le, le→leb}
 use lib.ListN.{length}
 use lib.IntN.{ℤ, predℤ}
@@ -17,8 +17,8 @@ use Rattle.schedule.proofs.Signed.{up, down, _≼_, leZ→, →leZ, leZ-total, 
 use Rattle.schedule.proofs.Tests.{parts, is-true, is-false}
 use Rattle.schedule.proofs.DeskLaws.{worst-kept, kept-worst}
 use Rattle.overtime.specs.Choices.{overtimes, lates, greatestLate, firstPlans, keepsLimit, lesser, leastThat, listedLates}
-use Rattle.overtime.specs.Choices.{Within, withinAt, withinFor, bestPlans}
-use Rattle.overtime.proofs.Firsts.{AllRise, taken, plans-smaller, plans-larger}
+use Rattle.overtime.specs.Choices.{LeastPlans, leastAt, leastFor, bestPlans}
+use Rattle.overtime.proofs.Firsts.{AllRise, firsts-of, plans-smaller, plans-larger}
 
 -- The least that passes a test, or that none does.
 module _ (test : ℤ → Bool) where
@@ -120,7 +120,7 @@ module _ (limit : ℕ) (closings : List ℕ) (lists : List (List Pair)) (some-li
 
   pub own : (y : ℤ) (ps : List Pair) → firstPlans y lists ≡ some ps → overtimes closings ps ≤ limit → Own y ps
   own y ps e h =
-      let r = taken y lists rise ps e in
+      let r = firsts-of y lists rise ps e in
       let n : 0 < length ps = omega (arith, r .many) in
       let l = greatest-most y ps n (r .kept) in
       let g = plans-smaller y (greatestLate ps) l lists ps e (greatest-kept ps n) in
@@ -137,21 +137,21 @@ module _ (limit : ℕ) (closings : List ℕ) (lists : List (List Pair)) (some-li
   least = leastThat fits (listedLates lists)
 
   -- What is known of the plans that are chosen, and where none are.
-  pub record Found (w : Within) : Type 0 where
+  pub record Found (w : LeastPlans) : Type 0 where
     pub first : firstPlans (w .late) lists ≡ some (w .plans)
     pub kept : overtimes closings (w .plans) ≤ limit
     pub late : greatestLate (w .plans) ≡ w .late
     pub least : (y : ℤ) (ps : List Pair) → firstPlans y lists ≡ some ps → overtimes closings ps ≤ limit → w .late ≼ greatestLate ps
 
-  abbrev pub Chooses : Option Within → Type 0
+  abbrev pub Chooses : Option LeastPlans → Type 0
   Chooses none = (y : ℤ) (ps : List Pair) → firstPlans y lists ≡ some ps → ¬ (overtimes closings ps ≤ limit)
   Chooses (some w) = Found w
 
-  chooses-for : (o : Option ℤ) → Least fits (listedLates lists) o → Chooses (withinFor lists o)
+  chooses-for : (o : Option ℤ) → Least fits (listedLates lists) o → Chooses (leastFor lists o)
   chooses-for none l = λ y ps e h. let w = own y ps e h in l (greatestLate ps) (w .listed) (w .fits)
   chooses-for (some y) l = at (firstPlans y lists) refl
     where
-      at : (q : Option (List Pair)) → firstPlans y lists ≡ q → Chooses (withinAt y q)
+      at : (q : Option (List Pair)) → firstPlans y lists ≡ q → Chooses (leastAt y q)
       at none e = absurd (subst T (ap (keepsLimit limit closings) e) (l .1))
       at (some ps) e =
           let h : overtimes closings ps ≤ limit = leb→le (overtimes closings ps) limit (subst T (ap (keepsLimit limit closings) e) (l
@@ -171,7 +171,7 @@ module _ (limit : ℕ) (closings : List ℕ) (lists : List (List Pair)) (some-li
   -- First plans that keep the limit, where those within the number before their greatest lateness do not: they are chosen.
   stops-for : (y : ℤ) (ps : List Pair) → firstPlans y lists ≡ some ps → overtimes closings ps ≤ limit →
       ¬ T (fits (predℤ (greatestLate ps))) → (o : Option ℤ) → Least fits (listedLates lists) o →
-      withinFor lists o ≡ some (record { late = greatestLate ps; plans = ps })
+      leastFor lists o ≡ some (record { late = greatestLate ps; plans = ps })
   stops-for y ps e h n none l = let w = own y ps e h in absurd (l (greatestLate ps) (w .listed) (w .fits))
   stops-for y ps e h n (some v) l = step (decLe (up v + down (predℤ g)) (up (predℤ g) + down v))
     where
@@ -181,11 +181,11 @@ module _ (limit : ℕ) (closings : List ℕ) (lists : List (List Pair)) (some-li
       w : Own y ps
       w = own y ps e h
 
-      step : Dec (v ≼ predℤ g) → withinFor lists (some v) ≡ some (record { late = g; plans = ps })
+      step : Dec (v ≼ predℤ g) → leastFor lists (some v) ≡ some (record { late = g; plans = ps })
       step (yes q) = absurd (n (larger v (predℤ g) q (l .1)))
       step (no q) =
           let same : v ≡ g = level v g (omega (arith, l .2 g (w .listed) (w .fits), pred-level g)) in
-          ap (λ (x : ℤ). withinFor lists (some x)) same ∙ ap (withinAt g) (w .here)
+          ap (λ (x : ℤ). leastFor lists (some x)) same ∙ ap (leastAt g) (w .here)
 
   pub stops : (y : ℤ) (ps : List Pair) → firstPlans y lists ≡ some ps → overtimes closings ps ≤ limit →
       fits (predℤ (greatestLate ps)) ≡ false → bestPlans limit closings lists ≡ some (record { late = greatestLate ps; plans = ps })
@@ -197,6 +197,6 @@ module _ (limit : ℕ) (closings : List ℕ) (lists : List (List Pair)) (some-li
   unfolding bestPlans
   never-keeps y top n = step least (least-of fits (listedLates lists))
     where
-      step : (o : Option ℤ) → Least fits (listedLates lists) o → withinFor lists o ≡ none
+      step : (o : Option ℤ) → Least fits (listedLates lists) o → leastFor lists o ≡ none
       step none l = refl
       step (some v) l = absurd (subst T n (larger v y (top v (l .0)) (l .1)))

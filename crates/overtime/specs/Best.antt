@@ -13,7 +13,8 @@ use Rattle.schedule.specs.Cover.{PlansPromise}
 use Rattle.outcomes.specs.Planning.{Planning}
 use Rattle.overtime.specs.Choices.{overtime, overtimes, greatestLate, firstPlans, planOrders, listsOf, Chosen, bestChoice}
 
--- Overtime is how far an end passes closing, or 0, and overtimes add up. The greatest of some latenesses is one of them, and none is greater.
+-- Overtime is how far an end passes closing, or 0, and overtimes add up. The greatest of some latenesses is one of them, and none is
+-- greater.
 pub record Measures : Type 0 where
   pub no-overtime : (end closing : ℕ) → end ≤ closing → overtime end closing ≡ 0
   pub some-overtime : (end closing : ℕ) → closing ≤ end → closing + overtime end closing ≡ end
@@ -34,8 +35,8 @@ pairsBy (d ∷ ds) [] = []
 pairsBy (d ∷ ds) (o ∷ os) = pairOf (d .job) (d .minute) o ∷ pairsBy ds os
 
 -- Its list is the list by its definition, and its orders for a bound are best.
-abbrev pub Planned : Planning → Type 0
-Planned d = (d .plans ≡ plans (d .job) (d .minute) (d .left)) × PlansPromise (d .job) (d .minute) (d .left) (d .orders)
+abbrev pub HasPromise : Planning → Type 0
+HasPromise d = (d .plans ≡ plans (d .job) (d .minute) (d .left)) × PlansPromise (d .job) (d .minute) (d .left) (d .orders)
 
 module _ (limit : ℕ) (closings : List ℕ) (desks : List Planning) where
   -- A choice whose overtimes add up to at most the limit.
@@ -61,4 +62,4 @@ module _ (limit : ℕ) (closings : List ℕ) (desks : List Planning) where
 -- For one desk or more, a closing minute for each.
 abbrev pub SeveralDesks : Type 0
 SeveralDesks = (limit : ℕ) (closings : List ℕ) (desks : List Planning) → length closings ≡ length desks → 0 < length desks →
-    ((d : Planning) → List·Memᴰ d desks → Planned d) → DesksPromise limit closings desks
+    ((d : Planning) → List·Memᴰ d desks → HasPromise d) → DesksPromise limit closings desks

@@ -63,20 +63,20 @@ listedLates (l ∷ ls) = lates l ++ listedLates ls
 
 -- The plans that are chosen: of the least listed lateness y at which each list's first plan within y keeps the limit, that lateness and
 -- these plans; none where there is no such lateness.
-pub record Within : Type 0 where
+pub record LeastPlans : Type 0 where
   pub late : ℤ
   pub plans : List Pair
 
-abbrev pub withinAt : ℤ → Option (List Pair) → Option Within
-withinAt y none = none
-withinAt y (some ps) = some (record { late = y; plans = ps })
+abbrev pub leastAt : ℤ → Option (List Pair) → Option LeastPlans
+leastAt y none = none
+leastAt y (some ps) = some (record { late = y; plans = ps })
 
-abbrev pub withinFor : (lists : List (List Pair)) → Option ℤ → Option Within
-withinFor lists none = none
-withinFor lists (some y) = withinAt y (firstPlans y lists)
+abbrev pub leastFor : (lists : List (List Pair)) → Option ℤ → Option LeastPlans
+leastFor lists none = none
+leastFor lists (some y) = leastAt y (firstPlans y lists)
 
-unfoldable pub bestPlans : (limit : ℕ) (closings : List ℕ) (lists : List (List Pair)) → Option Within
-bestPlans limit closings lists = withinFor lists (leastThat (λ y. keepsLimit limit closings (firstPlans y lists)) (listedLates lists))
+unfoldable pub bestPlans : (limit : ℕ) (closings : List ℕ) (lists : List (List Pair)) → Option LeastPlans
+bestPlans limit closings lists = leastFor lists (leastThat (λ y. keepsLimit limit closings (firstPlans y lists)) (listedLates lists))
 
 -- The order of each desk's plan: the order for the bound equal to its own lateness.
 abbrev pub orEmpty : Option (List ℕ) → List ℕ
@@ -97,7 +97,7 @@ pub record Chosen : Type 0 where
 abbrev pub listsOf : List Planning → List (List Pair)
 listsOf desks = map (λ (d : Planning). d .plans) desks
 
-abbrev pub chosenFrom : (closings : List ℕ) → List Planning → Option Within → Option Chosen
+abbrev pub chosenFrom : (closings : List ℕ) → List Planning → Option LeastPlans → Option Chosen
 chosenFrom closings desks none = none
 chosenFrom closings desks (some w) =
     some (record { late = w .late; overtime = overtimes closings (w .plans); orders = planOrders desks (w .plans) })

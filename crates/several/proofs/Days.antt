@@ -2,7 +2,7 @@
 use Prim.Native.Nat.{ℕ, zero, suc, _+_, _≤_, _<_}
 use native.Mathlib.Omega.{arith}
 use native.Mathlib.Decide.{ℕ-discrete}
-use mathlib.Core.Path.{_≡_, refl, sym, ap, ap₂, _∙_, subst}
+use mathlib.Core.Path.{_≡_, refl, sym, ap, ap₂, _∙_}
 use mathlib.Core.List.{List, [], _∷_, map, map-map, flatten}
 use mathlib.Core.Option.{Option, none, some}
 use lib.ListN.{length, take, getD, length-map}
@@ -19,16 +19,16 @@ use Rattle.readers.specs.Reads.{orderingRule}
 use Rattle.results.specs.Results.{written}
 use Rattle.outcomes.specs.Planning.{Planning, gives}
 use Rattle.calls.specs.Planned.{planned}
-use Rattle.overtime.specs.Choices.{overtimes, firstPlans, Within, bestPlans, orEmpty, planOrders, listsOf, Chosen, chosenFrom, bestChoice}
+use Rattle.overtime.specs.Choices.{overtimes, firstPlans, LeastPlans, bestPlans, orEmpty, planOrders, listsOf, chosenFrom, bestChoice}
 use Rattle.choice.specs.declared.Taken.{Taken}
 use Rattle.choice.specs.declared.Taken.the-variants as taken
 use Rattle.choice.specs.Lists.{listAt, listsIn, Listed, placeAt, takenOf, takenBy, bestOf}
 use Rattle.choice.proofs.Taking.{firstAt, firstsTo, none-within, inside, firsts-all}
-use Rattle.choice.proofs.Choosing.{Best, best}
+use Rattle.choice.proofs.Choosing.{Known, best}
 use Rattle.several_books.specs.declared.AllRead.{AllRead}
 use Rattle.several_lent.specs.Lent.{booksOf}
-use Rattle.several_books.specs.Days.{rowsOf}
-use Rattle.several_books.specs.Held.{Slot, slotAt, planningAt, Holds, noDay, ReadAll}
+use Rattle.several_books.specs.Days.{rowsOf, noDay}
+use Rattle.several_books.specs.Held.{Slot, slotAt, Holds, ReadAll}
 use Rattle.several_books.proofs.Desks.{rows-more, books-length, DaysOf}
 use Rattle.several.specs.declared.SeveralAnswer.the-variants as several-answer
 use Rattle.several_orders.specs.Orders.{rowsTo, orderAt, ordersTo, CanOrder}
@@ -123,11 +123,11 @@ module _ (opening : ℕ) (ds : List Day) (free rows plans : List ℕ) (columns f
     pub answer-narrow : length b < total → gives (several-answer.Refused 9 0 0) b ≡ daysOutcome opening closings limit b ds
     answer-narrow h = sym (days-narrow opening closings limit b ds (omega (arith, r .summed)))
 
-    chosen-is : (o : Option Within) → bestPlans limit closings lists ≡ o → bestChoice limit closings desks ≡ chosenFrom closings desks o
+    chosen-is : (o : Option LeastPlans) → bestPlans limit closings lists ≡ o → bestChoice limit closings desks ≡ chosenFrom closings desks o
     unfolding bestChoice
     chosen-is o e = ap (chosenFrom closings desks) (ap (bestPlans limit closings) (sym lists-same) ∙ e)
 
-    none-taken : (o : Option Within) → takenBy closings o ≡ taken.None → o ≡ none
+    none-taken : (o : Option LeastPlans) → takenBy closings o ≡ taken.None → o ≡ none
     unfolding takenBy
     none-taken none e = refl
     none-taken (some w) e = never (cc)
@@ -139,23 +139,24 @@ module _ (opening : ℕ) (ds : List Day) (free rows plans : List ℕ) (columns f
         sym (days-none opening closings limit b ds (omega (arith, r .summed)) (chosen-is none none-is))
 
     -- Plans are chosen.
-    pub record Takes (late sum : ℕ) : Type 0 where
-      pub within : Within
+    pub record PlansTaken (late sum : ℕ) : Type 0 where
+      pub within : LeastPlans
       pub is : bestPlans limit closings lists ≡ some within
       pub lateness : late ≡ raised (within .late)
       pub overtime : sum ≡ overtimes closings (within .plans)
 
-    takes-by : (o : Option Within) → bestPlans limit closings lists ≡ o → (late sum : ℕ) → takenBy closings o ≡ taken.Plans late sum →
-        Takes late sum
+    plans-taken-by : (o : Option LeastPlans) → bestPlans limit closings lists ≡ o → (late sum : ℕ) →
+        takenBy closings o ≡ taken.Plans late sum →
+        PlansTaken late sum
     unfolding takenBy
-    takes-by none q late sum e = never (cc)
-    takes-by (some w) q late sum e = record { within = w; is = q; lateness = cc; overtime = cc }
+    plans-taken-by none q late sum e = never (cc)
+    plans-taken-by (some w) q late sum e = record { within = w; is = q; lateness = cc; overtime = cc }
 
-    pub takes : (t : Taken) → t ≡ bestOf limit closings lists → (late sum : ℕ) → t ≡ taken.Plans late sum → Takes late sum
-    takes t e late sum p = takes-by (bestPlans limit closings lists) refl late sum (sym e ∙ p)
+    pub plans-taken : (t : Taken) → t ≡ bestOf limit closings lists → (late sum : ℕ) → t ≡ taken.Plans late sum → PlansTaken late sum
+    plans-taken t e late sum p = plans-taken-by (bestPlans limit closings lists) refl late sum (sym e ∙ p)
 
-    module _ (late sum : ℕ) (k : Takes late sum) where
-      w : Best plans fronts closings limit listed some-desk (k .within)
+    module _ (late sum : ℕ) (k : PlansTaken late sum) where
+      w : Known plans fronts closings limit listed some-desk (k .within)
       w = best plans fronts closings limit listed some-desk (k .within) (k .is)
 
       pub sum-kept : sum ≤ limit

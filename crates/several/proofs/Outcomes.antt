@@ -1,7 +1,7 @@
 -- What the outcomes of the call are, case by case. Assumes nothing.
 use Prim.Native.Nat.{ℕ, _≤_, _<_}
 use mathlib.Core.Bool.{true, false}
-use mathlib.Core.Path.{_≡_, ap, _∙_}
+use mathlib.Core.Path.{_≡_}
 use mathlib.Core.List.{List, flatten}
 use mathlib.Core.Option.{none, some}
 use lib.ListN.{length}

@@ -1,5 +1,5 @@
 -- Books that are read desk by desk: what is known before each, and at the end. Assumes nothing.
-use Prim.Native.Nat.{ℕ, zero, suc, _+_, _-_, _*_, _≤_, _<_}
+use Prim.Native.Nat.{ℕ, suc, _+_, _-_, _*_, _≤_, _<_}
 use native.Mathlib.Omega.{arith}
 use native.Mathlib.Decide.{ℕ-discrete}
 use native.Mathlib.Numerals.{add-one}
@@ -19,8 +19,8 @@ use Rattle.readers.specs.Reads.{readBy, outcomeOf}
 use Rattle.several_books.specs.declared.AllRead.the-variants as all-read
 use Rattle.several_books.specs.declared.AllRead.{AllRead}
 use Rattle.several_lent.specs.Lent.{booksOf, total}
-use Rattle.several_books.specs.Days.{DesksRead, refusedAt, days, dayInFront, withRest, readDesks, rowsOf}
-use Rattle.several_books.specs.Held.{Slot, slotAt, Holds, Sized, ReadInto, noDay, DaysHeld, allReadOf, ReadAll}
+use Rattle.several_books.specs.Days.{DesksRead, refusedAt, days, dayInFront, withRest, readDesks, rowsOf, noDay}
+use Rattle.several_books.specs.Held.{Slot, slotAt, Holds, RoomForDesks, ReadInto, DaysHeld, allReadOf, ReadAll}
 use Rattle.several_lent.proofs.Sums.{total-next}
 
 -- What a test says of the contents.
@@ -88,7 +88,7 @@ module _ (terms : Terms) (books lengths : List ℕ) where
 
   pub record ReadTo (free rows plans : List ℕ) (columns fronts : List (List ℕ)) (sum from d : ℕ) : Type 0 where
     pub within : d ≤ length lengths
-    pub sized : Sized free rows plans columns fronts
+    pub sized : RoomForDesks free rows plans columns fronts
     pub before : List Day
     pub many : length before ≡ d
     pub summed : sum ≡ rowsOf before
@@ -97,7 +97,7 @@ module _ (terms : Terms) (books lengths : List ℕ) where
     pub rest : readDesks terms 1 parts ≡ behind before (onward from d)
     pub held : (e : ℕ) → e < d → Holds (terms .opening) (getD before e noDay) (slotAt free rows plans columns fronts e)
 
-  pub read-none : (free rows plans : List ℕ) (columns fronts : List (List ℕ)) → Sized free rows plans columns fronts →
+  pub read-none : (free rows plans : List ℕ) (columns fronts : List (List ℕ)) → RoomForDesks free rows plans columns fronts →
       total lengths ≡ length books → ReadTo free rows plans columns fronts 0 0 0
   unfolding behind rowsOf
   read-none free rows plans columns fronts z e = record {

@@ -14,7 +14,7 @@ use Rattle.schedule.specs.Rows.{Day, countFrom, jobs}
 use Rattle.schedule.specs.Desk.{Pair, pairOf}
 use Rattle.schedule.specs.Cover.{Rising}
 use Rattle.schedule.specs.Profiles.{plansBy, orderBy}
-use Rattle.schedule.specs.Offset.{raised, lowered, deskAt}
+use Rattle.schedule.specs.Offset.{raised, deskAt}
 use Rattle.schedule.specs.Columns.{at}
 use Rattle.schedule.proofs.Signed.{leZ→}
 use Rattle.schedule.proofs.SameJobs.{same-list, same-order}
@@ -29,13 +29,12 @@ use Rattle.readers.specs.Reads.{orderingRule, readBy, outcomeOf, Gives}
 use Rattle.readers.proofs.Readings.{given-passed, given-refused}
 use Rattle.listing.specs.declared.Front.{Front}
 use Rattle.listing.specs.Fronts.{pairsOf, held, HoldsPlans}
-use Rattle.listing.proofs.Fronts.{plans-sized, plans-held}
-use Rattle.outcomes.specs.Planning.{Planning, planningIn, planningOf}
+use Rattle.listing.proofs.Fronts.{plans-held}
+use Rattle.outcomes.specs.Planning.{Planning, planningIn}
 use Rattle.outcomes.specs.Plannable.{Plannable}
 use Rattle.outcomes.proofs.Columns.{sound-in, order-length, plan-lowers}
 use Rattle.calls.proofs.Ready.{same, plannable}
-use Rattle.choice.specs.Lists.{ListedAt}
-use Rattle.several_books.specs.Held.{Slot, jobsIn, planningAt, Ready, Holds, Sized, ReadInto}
+use Rattle.several_books.specs.Held.{Slot, jobsIn, planningAt, SlotReady, Holds, RoomForDesks, ReadInto}
 use Rattle.several_books.proofs.Slots.{columnsPut, frontsPut, slotPut, put-here, put-other, put-sized}
 
 -- The desk of what a book gave, with its list.
@@ -77,7 +76,7 @@ module _ (s : Slot) (p : Plannable Ordering (jobsIn s) (s .free) (s .rows)) wher
         raised-most (pairOf (g .job) (s .free) (u .0) .late) (k .fits (u .0) (u .1 .0) .1),
       )
 
-  pub ready-with : HoldsPlans (g .plans) (s .rows) (record { count = s .plans; ends = s .ends; lates = s .lates }) → Ready s
+  pub ready-with : HoldsPlans (g .plans) (s .rows) (record { count = s .plans; ends = s .ends; lates = s .lates }) → SlotReady s
   ready-with h = record {
     plannable = p;
     listed = record {
@@ -126,7 +125,7 @@ module _ (opening : ℕ) (book : List ℕ) (r : Given) (day : Day) (reads : read
 -- The book of desk d is read: refused, or put into its place.
 module _ (opening : ℕ) (book : List ℕ) (r : Given) (gives : Gives opening (readBy (orderingRule opening) book) r) (free rows plans :
     List ℕ)
-    (columns fronts : List (List ℕ)) (sized : Sized free rows plans columns fronts) (d : ℕ) where
+    (columns fronts : List (List ℕ)) (sized : RoomForDesks free rows plans columns fronts) (d : ℕ) where
   pub into-refused : (n p : ℕ) → r .outcome ≡ Refused n p →
       ReadInto (orderingRule opening) book d free rows plans columns fronts free rows plans columns fronts (Refused n p)
   into-refused n p e =

@@ -1,13 +1,13 @@
 -- What is held of several desks, with one desk put into its place.
 -- Assumes nothing.
-use Prim.Native.Nat.{ℕ, _+_, _*_, _≤_, _<_}
+use Prim.Native.Nat.{ℕ, _+_, _*_, _<_}
 use native.Mathlib.Omega.{arith}
-use mathlib.Core.Path.{_≡_, refl, sym, ap, _∙_}
+use mathlib.Core.Path.{_≡_, _∙_}
 use mathlib.Core.List.{List, []}
-use lib.ListN.{length, getD, set, length-set}
+use lib.ListN.{getD, set, length-set}
 use lib.Seq.{getD-set-same, getD-set-other}
 use Rattle.schedule.specs.Limits.{mostDesks}
-use Rattle.several_books.specs.Held.{Slot, slotAt, Sized}
+use Rattle.several_books.specs.Held.{Slot, slotAt, RoomForDesks}
 
 module _ (columns fronts : List (List ℕ)) (d : ℕ) (s : Slot) where
   abbrev releasePut : List (List ℕ)
@@ -25,8 +25,8 @@ module _ (columns fronts : List (List ℕ)) (d : ℕ) (s : Slot) where
   abbrev pub frontsPut : List (List ℕ)
   frontsPut = set endsPut (2 * d + 1) (s .lates)
 
-module _ (free rows plans : List ℕ) (columns fronts : List (List ℕ)) (z : Sized free rows plans columns fronts) (d : ℕ) (h : d < mostDesks)
-    (s : Slot) where
+module _ (free rows plans : List ℕ) (columns fronts : List (List ℕ))
+    (z : RoomForDesks free rows plans columns fronts) (d : ℕ) (h : d < mostDesks) (s : Slot) where
   abbrev pub slotPut : ℕ → Slot
   slotPut e = slotAt (set free d (s .free)) (set rows d (s .rows)) (set plans d (s .plans)) (columnsPut columns fronts d s) (frontsPut
       columns fronts d s) e
@@ -90,7 +90,7 @@ module _ (free rows plans : List ℕ) (columns fronts : List (List ℕ)) (z : Si
       lates = front (2 * e + 1) (λ x. omega arith) (λ x. omega arith) i;
     }
 
-  pub put-sized : Sized (set free d (s .free)) (set rows d (s .rows)) (set plans d (s .plans)) (columnsPut columns fronts d s)
+  pub put-sized : RoomForDesks (set free d (s .free)) (set rows d (s .rows)) (set plans d (s .plans)) (columnsPut columns fronts d s)
       (frontsPut columns fronts d s)
   put-sized = record {
     frees = simp length-set (z .frees);

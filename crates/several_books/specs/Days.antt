@@ -26,6 +26,10 @@ unfoldable pub readDesks : Terms → (desk : ℕ) → List (List ℕ) → DesksR
 readDesks terms d [] = days []
 readDesks terms d (b ∷ bs) = withRest d (readBy terms b) (readDesks terms (suc d) bs)
 
+-- What stands for a day past the last.
+abbrev pub noDay : Day
+noDay = record { free = 0; rows = [] }
+
 -- The rows of all days.
 unfoldable pub rowsOf : List Day → ℕ
 rowsOf [] = 0

@@ -1,6 +1,6 @@
 -- What is held of several desks once their books are read: rows in columns, and lists. Only contracts cite it.
--- Rests on: Lent, the lists in columns (choice), what is planned (outcomes).
-use Prim.Native.Nat.{ℕ, _+_, _*_, _≤_, _<_}
+-- Rests on: Days, the lists in columns (choice), what is planned (outcomes).
+use Prim.Native.Nat.{ℕ, _+_, _*_, _<_}
 use mathlib.Core.Path.{_≡_}
 use mathlib.Core.List.{List, []}
 use lib.ListN.{length, getD, take}
@@ -20,7 +20,7 @@ use Rattle.outcomes.specs.Plannable.{Plannable}
 use Rattle.choice.specs.Lists.{endsAt, latesAt, ListedAt}
 use Rattle.several_books.specs.declared.AllRead.{AllRead}
 use Rattle.several_books.specs.declared.AllRead.the-variants as all-read
-use Rattle.several_books.specs.Days.{DesksRead, refusedAt, days, readDesks, rowsOf}
+use Rattle.several_books.specs.Days.{DesksRead, refusedAt, days, readDesks, rowsOf, noDay}
 
 -- What is held of one desk: its free minute, how many rows and plans it has, its rows in columns, and its list.
 pub record Slot : Type 0 where
@@ -53,20 +53,20 @@ abbrev pub planningAt : Slot → Planning
 planningAt s = planningIn Ordering (jobsIn s) (s .free) (s .rows)
 
 -- The desk can be planned, and has its list.
-pub record Ready (s : Slot) : Type 0 where
+pub record SlotReady (s : Slot) : Type 0 where
   pub plannable : Plannable Ordering (jobsIn s) (s .free) (s .rows)
   pub listed : ListedAt (s .plans) (s .ends) (s .lates)
   pub list : pairsOf (take (s .plans) (s .ends)) (take (s .plans) (s .lates)) ≡ planningAt s .plans
 
 -- It is the desk of a day: it has its rows, plans and orders.
 pub record Holds (opening : ℕ) (day : Day) (s : Slot) : Type 0 where
-  pub ready : Ready s
+  pub ready : SlotReady s
   pub rows : s .rows ≡ length (day .rows)
   pub plans : planningAt s .plans ≡ planningOf Ordering opening day .plans
   pub orders : (y : ℤ) → planningAt s .orders y ≡ planningOf Ordering opening day .orders y
 
 -- There is room for the most desks.
-pub record Sized (free rows plans : List ℕ) (columns fronts : List (List ℕ)) : Type 0 where
+pub record RoomForDesks (free rows plans : List ℕ) (columns fronts : List (List ℕ)) : Type 0 where
   pub frees : length free ≡ mostDesks
   pub counts : length rows ≡ mostDesks
   pub lists : length plans ≡ mostDesks
@@ -78,14 +78,11 @@ pub record ReadInto (terms : Terms) (book : List ℕ) (d : ℕ)
     (free rows plans : List ℕ) (columns fronts : List (List ℕ))
     (free′ rows′ plans′ : List ℕ) (columns′ fronts′ : List (List ℕ)) (r : Tested) : Type 0 where
   pub outcome : r ≡ outcomeOf (readBy terms book)
-  pub sized : Sized free′ rows′ plans′ columns′ fronts′
+  pub sized : RoomForDesks free′ rows′ plans′ columns′ fronts′
   pub here : (day : Day) → readBy terms book ≡ accepted day → Holds (terms .opening) day (slotAt free′ rows′ plans′ columns′ fronts′ d)
   pub others : (e : ℕ) → ¬ (e ≡ d) → slotAt free′ rows′ plans′ columns′ fronts′ e ≡ slotAt free rows plans columns fronts e
 
 -- All books are read: the first refusal with its desk, or the rows of all days, and each day's desk in its place.
-abbrev pub noDay : Day
-noDay = record { free = 0; rows = [] }
-
 unfoldable pub allReadOf : DesksRead → AllRead
 allReadOf (refusedAt n p d) = all-read.Refused n p d
 allReadOf (days ds) = all-read.Rows (rowsOf ds)

@@ -5,7 +5,7 @@ ghost use lib.ListN.{length};
 ghost use Rattle.schedule.specs.Limits.{mostDesks};
 ghost use Rattle.readers.specs.Reads.{orderingRule};
 ghost use Rattle.several_lent.specs.Lent.{booksOf, total};
-ghost use Rattle.several_books.specs.Held.{Sized, ReadInto, ReadAll};
+ghost use Rattle.several_books.specs.Held.{RoomForDesks, ReadInto, ReadAll};
 use choice::Desks;
 use readers::Terms;
 use refusals::Tested;
@@ -29,7 +29,7 @@ fn read_into(
     columns: &mut [[u32; Desk::PLACES]; Desks::COLUMNS],
     fronts: &mut [[u32; Desk::ROWS]; Desks::FRONTS],
 ) -> Tested
-    requires { ⌜ (d < mostDesks) × Sized (now free) (now rows) (now plans) (now columns) (now fronts) ⌝ }
+    requires { ⌜ (d < mostDesks) × RoomForDesks (now free) (now rows) (now plans) (now columns) (now fronts) ⌝ }
     ensures { λ r. ⌜ ReadInto (orderingRule opening) (now (book .entry)) d
         (now (free .entry)) (now (rows .entry)) (now (plans .entry)) (now (columns .entry)) (now (fronts .entry))
         (now (free .exit)) (now (rows .exit)) (now (plans .exit)) (now (columns .exit)) (now (fronts .exit)) r ⌝ }
@@ -79,7 +79,7 @@ pub fn read_desks(
     fronts: &mut [[u32; Desk::ROWS]; Desks::FRONTS],
 ) -> AllRead
     requires { ⌜ (length (now lengths) ≤ mostDesks) × (total (now lengths) ≡ length (now books)) ×
-        Sized (now free) (now rows) (now plans) (now columns) (now fronts) ⌝ }
+        RoomForDesks (now free) (now rows) (now plans) (now columns) (now fronts) ⌝ }
     ensures { λ r. ⌜ ReadAll (orderingRule opening) (booksOf (now (lengths .entry)) (now (books .entry)))
         (now (free .exit)) (now (rows .exit)) (now (plans .exit)) (now (columns .exit)) (now (fronts .exit)) r ⌝ }
 {

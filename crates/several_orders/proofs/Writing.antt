@@ -6,11 +6,9 @@ use mathlib.Core.Path.{_≡_, refl, sym, ap, _∙_, subst}
 use mathlib.Core.List.{List, [], _∷_, _++_, flatten, append-nil, append-assoc, List·Memᴰ}
 use mathlib.Core.Option.{Option, some}
 use lib.ListN.{length, take, drop, getD, length-append, length-drop, drop-of-length-le}
-use lib.IntN.{pos}
 use lib.Seq.{take-all, take-at, drop-at, drop-drop}
-use Rattle.schedule.specs.Limits.{mostRows}
 use Rattle.schedule.specs.Rows.{countFrom}
-use Rattle.schedule.specs.Desk.{Pair, OrderOf}
+use Rattle.schedule.specs.Desk.{Pair}
 use Rattle.schedule.specs.Offset.{lowered}
 use Rattle.schedule.specs.Columns.{at}
 use Rattle.listing.specs.Fronts.{pairAt, pairsOf}
@@ -22,12 +20,12 @@ use Rattle.outcomes.proofs.Columns.{sound-in, order-length}
 use Rattle.overtime.specs.Choices.{orEmpty}
 use Rattle.choice.specs.Lists.{latesAt, placeAt}
 use Rattle.choice.proofs.Taking.{map-last}
-use Rattle.several_books.specs.Held.{Slot, slotAt, planningAt, Ready}
+use Rattle.several_books.specs.Held.{Slot, slotAt, planningAt, SlotReady}
 use Rattle.several_books.proofs.Reading.{at-mem}
 use Rattle.several_orders.specs.Orders.{rowsTo, orderAt, ordersTo, CanOrder}
 
 -- The order of a listed plan: there is one, and it has every row.
-module _ (s : Slot) (r : Ready s) (k : ℕ) (h : k < s .plans) where
+module _ (s : Slot) (r : SlotReady s) (k : ℕ) (h : k < s .plans) where
   abbrev g : Planning
   g = planningAt s
 
@@ -60,13 +58,13 @@ module _ (free rows plans : List ℕ) (columns fronts : List (List ℕ)) (bound 
   orders d = flatten (ordersTo free rows plans columns fronts bound d)
 
   -- The orders of the first d desks stand in front of what the buffer held.
-  pub record Written (entry result : List ℕ) (place d : ℕ) : Type 0 where
+  pub record WrittenTo (entry result : List ℕ) (place d : ℕ) : Type 0 where
     pub within : d ≤ desks
     pub rows-so-far : place ≡ rowsTo rows d
     pub sized : length (orders d) ≡ place
     pub holds : result ≡ orders d ++ drop place entry
 
-  pub written-none : (entry : List ℕ) → Written entry entry 0 0
+  pub written-none : (entry : List ℕ) → WrittenTo entry entry 0 0
   unfolding countFrom flatten rowsTo
   written-none entry = record { within = omega arith; rows-so-far = refl; sized = refl; holds = refl }
 
@@ -84,7 +82,7 @@ module _ (free rows plans : List ℕ) (columns fronts : List (List ℕ)) (bound 
       subst (λ (n : ℕ). rowsTo rows (suc d) ≤ rowsTo rows n) e (rows-more (suc d) k (omega arith))
 
   module _ (can : CanOrder free rows plans columns fronts bound desks) (entry result : List ℕ) (place d : ℕ)
-      (w : Written entry result place d) (h : d < desks) where
+      (w : WrittenTo entry result place d) (h : d < desks) where
     abbrev slot : Slot
     slot = slotAt free rows plans columns fronts d
 
@@ -103,7 +101,7 @@ module _ (free rows plans : List ℕ) (columns fronts : List (List ℕ)) (bound 
     -- The buffer with an order in the place of all that is left of it.
     pub written-more : (found : ℕ) → found ≡ k → (after : List ℕ) →
         after ≡ writtenOf (planningAt slot .orders (lowered (at (latesAt fronts d) found))) (take left (drop place result)) →
-        Written entry (take place result ++ (after ++ drop left (drop place result))) (place + at rows d) (d + 1)
+        WrittenTo entry (take place result ++ (after ++ drop left (drop place result))) (place + at rows d) (d + 1)
     unfolding writtenOf
     written-more found there after e =
         let c = can d h in
@@ -134,14 +132,14 @@ module _ (free rows plans : List ℕ) (columns fronts : List (List ℕ)) (bound 
         more = unfold rowsTo in omega (arith, w .rows-so-far)
 
   -- All orders are written.
-  pub written-all : (entry result : List ℕ) (place d : ℕ) → Written entry result place d → d ≡ desks →
+  pub written-all : (entry result : List ℕ) (place d : ℕ) → WrittenTo entry result place d → d ≡ desks →
       result ≡ written (orders desks) entry
   unfolding written
   written-all entry result place d w e =
       w .holds ∙ ap (λ (n : ℕ). orders d ++ drop n entry) (sym (w .sized)) ∙
       ap (λ (n : ℕ). orders n ++ drop (length (orders n)) entry) e
 
-  pub same-room : (entry result : List ℕ) (place d : ℕ) → Written entry result place d → rowsTo rows desks ≤ length entry →
+  pub same-room : (entry result : List ℕ) (place d : ℕ) → WrittenTo entry result place d → rowsTo rows desks ≤ length entry →
       length result ≡ length entry
   same-room entry result place d w h =
       let n : ℕ = desks - d in

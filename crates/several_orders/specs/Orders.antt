@@ -1,13 +1,13 @@
 -- The orders of several desks as the code writes them, from what it holds of each. Only contracts cite it.
 -- Rests on: what is held of a desk (several_books), what is chosen (overtime).
-use Prim.Native.Nat.{ℕ, zero, suc, _+_, _≤_, _<_}
+use Prim.Native.Nat.{ℕ, zero, suc, _+_, _<_}
 use mathlib.Core.List.{List, map}
 use Rattle.schedule.specs.Rows.{countFrom}
 use Rattle.schedule.specs.Offset.{lowered}
 use Rattle.schedule.specs.Columns.{at}
 use Rattle.overtime.specs.Choices.{orEmpty}
 use Rattle.choice.specs.Lists.{latesAt, placeAt}
-use Rattle.several_books.specs.Held.{slotAt, planningAt, Ready}
+use Rattle.several_books.specs.Held.{slotAt, planningAt, SlotReady}
 
 -- The rows of the first d desks.
 unfoldable pub rowsTo : (rows : List ℕ) → ℕ → ℕ
@@ -26,4 +26,4 @@ module _ (free rows plans : List ℕ) (columns fronts : List (List ℕ)) (bound 
 
   -- The first d desks can be planned, and each has a plan within the bound.
   abbrev pub CanOrder : ℕ → Type 0
-  CanOrder d = (e : ℕ) → e < d → Ready (slotAt free rows plans columns fronts e) × (placeAt plans fronts bound e < at plans e)
+  CanOrder d = (e : ℕ) → e < d → SlotReady (slotAt free rows plans columns fronts e) × (placeAt plans fronts bound e < at plans e)

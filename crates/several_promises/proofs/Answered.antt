@@ -3,7 +3,7 @@ use Prim.Native.Nat.{ℕ, zero, suc, _≤_, _<_}
 use native.Mathlib.Omega.{arith}
 use mathlib.Core.Bool.{Bool, true, false, cond}
 use mathlib.Core.Path.{_≡_, refl, sym, ap, ap₂, _∙_, subst}
-use mathlib.Core.List.{List, [], _∷_, map, flatten, List·Memᴰ, List·Memᴰ·head, List·Memᴰ·tail, List·Memᴰ·cases-cons, List·Memᴰ·not-nil}
+use mathlib.Core.List.{List, [], _∷_, flatten, List·Memᴰ, List·Memᴰ·head, List·Memᴰ·tail, List·Memᴰ·cases-cons, List·Memᴰ·not-nil}
 use mathlib.Core.List.{Memᴰ·of-map}
 use mathlib.Core.Logic.{_⊎_, inl, inr}
 use mathlib.Core.Option.{Option, none, some, Option·some-injective, Option·none-ne-some}
@@ -16,7 +16,7 @@ use Rattle.schedule.specs.Desk.{Pair}
 use Rattle.schedule.proofs.Tests.{is-true}
 use Rattle.schedule.proofs.Filling.{mapped-at}
 use Rattle.book.specs.Rows.{accepted}
-use Rattle.readers.specs.Reads.{orderingRule, readBy}
+use Rattle.readers.specs.Reads.{orderingRule}
 use Rattle.readers.specs.Accepted.{AcceptedDay}
 use Rattle.readers.proofs.Accepted.{accepted-day}
 use Rattle.results.specs.Results.{written}
@@ -24,15 +24,13 @@ use Rattle.outcomes.specs.Planning.{Outcome, gives, nth, Planning}
 use Rattle.calls.specs.Planned.{planned}
 use Rattle.promises.proofs.Accepted.{takes}
 use Rattle.promises.proofs.Promise.{day-sound}
-use Rattle.overtime.specs.Choices.{overtimes, greatestLate, firstWithin, firstPlans, orEmpty, planOrders, listsOf, Chosen, bestChoice}
-use Rattle.overtime.specs.Best.{pairsBy, Planned, Best, DesksPromise}
-use Rattle.overtime.proofs.Firsts.{FirstOf, first-of, firsts}
+use Rattle.overtime.specs.Choices.{greatestLate, firstWithin, firstPlans, orEmpty, planOrders, listsOf, Chosen, bestChoice}
+use Rattle.overtime.specs.Best.{pairsBy, HasPromise, Best, DesksPromise}
+use Rattle.overtime.proofs.Firsts.{first-of, firsts}
 use Rattle.overtime.proofs.Best.{several-desks}
-use Rattle.several_lent.specs.Lent.{LentRight, lentAmiss}
-use Rattle.several_books.specs.Days.{rowsOf}
-use Rattle.several_books.specs.Held.{noDay}
+use Rattle.several_books.specs.Days.{rowsOf, noDay}
 use Rattle.several_lent.proofs.Sums.{lent-right}
-use Rattle.several.specs.Answers.{SaidOfDesks, saidSeveral, saidChosen}
+use Rattle.several.specs.Answers.{saidSeveral, saidChosen}
 use Rattle.several.specs.declared.SeveralAnswer.{SeveralAnswer}
 use Rattle.several.specs.Calls.{desksOf, daysOutcome, severalCall}
 use Rattle.several.proofs.Outcomes.{days-none, days-some, call-days}
@@ -61,11 +59,11 @@ all-accepted opening books lengths ds t day m =
     subst (AcceptedDay terms) (v .2) (accepted-day terms (bookAt lengths books (v .0)) (getD ds (v .0) noDay) r)
 
 pub all-planned : (opening : ℕ) (books lengths : List ℕ) (ds : List Day) → TakesAll opening books lengths ds →
-    (d : Planning) → List·Memᴰ d (desksOf opening ds) → Planned d
+    (d : Planning) → List·Memᴰ d (desksOf opening ds) → HasPromise d
 all-planned opening books lengths ds t d m =
     let u = Memᴰ·of-map (planned (orderingRule opening)) ds m in
     let s = day-sound (all-accepted opening books lengths ds t (u .0) (u .1)) in
-    subst Planned (u .2) (s .front, s .promise)
+    subst HasPromise (u .2) (s .front, s .promise)
 
 -- The first plan within a bound, by its number.
 module _ (y : ℤ) where
@@ -102,7 +100,7 @@ module _ (y : ℤ) where
           before k f (suc j) x l g v = f j x (omega arith) g v
 
   -- A desk's order, where its first plan within the bound is p.
-  listed-first : (d : Planning) → Planned d → (p : Pair) → firstWithin y (d .plans) ≡ some p →
+  listed-first : (d : Planning) → HasPromise d → (p : Pair) → firstWithin y (d .plans) ≡ some p →
       FirstListed d y (orEmpty (d .orders (p .late)))
   unfolding nth
   listed-first d g p e =
@@ -123,7 +121,7 @@ module _ (y : ℤ) where
       before at f zero q l h = absurd (Option·none-ne-some q h)
       before at f (suc k) q l h = f k q (omega arith) h
 
-  first-each : (past : Planning) (ds : List Planning) → ((d : Planning) → List·Memᴰ d ds → Planned d) → (ps : List Pair) →
+  first-each : (past : Planning) (ds : List Planning) → ((d : Planning) → List·Memᴰ d ds → HasPromise d) → (ps : List Pair) →
       firstPlans y (listsOf ds) ≡ some ps → (e : ℕ) → e < length ds → FirstListed (getD ds e past) y (getD (planOrders ds ps) e [])
   first-each past [] g ps h e l = let z : ⊥ = omega arith in absurd z
   first-each past (d ∷ ds) g ps h e l =

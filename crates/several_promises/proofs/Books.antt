@@ -1,5 +1,5 @@
 -- The books of several desks, each by itself: what they give desk by desk is what each gives. Assumes nothing.
-use Prim.Native.Nat.{ℕ, zero, suc, _+_, _≤_, _<_}
+use Prim.Native.Nat.{ℕ, zero, suc, _+_, _<_}
 use native.Mathlib.Omega.{arith}
 use mathlib.Core.Path.{_≡_, refl, sym, ap, _∙_, subst}
 use mathlib.Core.List.{List, [], _∷_}
@@ -8,15 +8,13 @@ use lib.ListN.{length, take, drop, getD}
 use lib.Seq.{drop-drop}
 use Rattle.schedule.specs.Rows.{Day}
 use Rattle.schedule.specs.Columns.{at}
-use Rattle.refusals.proofs.Tests.{never}
 use Rattle.book.specs.Rows.{Contents, refused, accepted}
 use Rattle.readers.specs.declared.Terms.{Terms}
 use Rattle.readers.specs.Reads.{orderingRule, readBy}
 use Rattle.promises.proofs.Accepted.{takes}
 use Rattle.several_lent.specs.Lent.{booksOf, total}
-use Rattle.several_books.specs.Days.{DesksRead, refusedAt, days, dayInFront, withRest, readDesks}
-use Rattle.several_books.specs.Held.{noDay}
-use Rattle.several_books.proofs.Desks.{books-length, days-one}
+use Rattle.several_books.specs.Days.{DesksRead, refusedAt, days, dayInFront, withRest, readDesks, noDay}
+use Rattle.several_books.proofs.Desks.{books-length}
 use Rattle.several_promises.specs.Table.{bookAt, TakesAll}
 
 -- A part of the run is what the book of its desk is said to be.
@@ -40,17 +38,17 @@ module _ (terms : Terms) where
     pub here : readBy terms (getD bs e []) ≡ refused n p
 
   -- What is read from desk d on.
-  Gives : (d : ℕ) → List (List ℕ) → DesksRead → Type 0
-  Gives d bs (refusedAt n p k) = (e : ℕ) × (k ≡ d + e) × FirstRefused bs n p e
-  Gives d bs (days ds) = AllGive bs ds
+  GivesFrom : (d : ℕ) → List (List ℕ) → DesksRead → Type 0
+  GivesFrom d bs (refusedAt n p k) = (e : ℕ) × (k ≡ d + e) × FirstRefused bs n p e
+  GivesFrom d bs (days ds) = AllGive bs ds
 
-  gives-none : (d : ℕ) → Gives d [] (days [])
-  unfolding Gives
+  gives-none : (d : ℕ) → GivesFrom d [] (days [])
+  unfolding GivesFrom
   gives-none d = record { many = refl; each = λ e h. let z : ⊥ = omega arith in absurd z }
 
-  gives-more : (d : ℕ) (b : List ℕ) (bs : List (List ℕ)) (x : Contents) → readBy terms b ≡ x → (r : DesksRead) → Gives (suc d) bs r →
-      Gives d (b ∷ bs) (withRest d x r)
-  unfolding Gives
+  gives-more : (d : ℕ) (b : List ℕ) (bs : List (List ℕ)) (x : Contents) → readBy terms b ≡ x → (r : DesksRead) → GivesFrom (suc d) bs r →
+      GivesFrom d (b ∷ bs) (withRest d x r)
+  unfolding GivesFrom
   gives-more d b bs (refused n p) e r g =
       (0, omega arith, record { inside = omega arith; before = λ i h. let z : ⊥ = omega arith in absurd z; here = e })
   gives-more d b bs (accepted day) e (refusedAt n p k) g = (
@@ -72,7 +70,7 @@ module _ (terms : Terms) where
       each zero h = e
       each (suc i) h = g .each i (omega arith)
 
-  gives-all : (d : ℕ) (bs : List (List ℕ)) → Gives d bs (readDesks terms d bs)
+  gives-all : (d : ℕ) (bs : List (List ℕ)) → GivesFrom d bs (readDesks terms d bs)
   unfolding readDesks
   gives-all d [] = gives-none d
   gives-all d (b ∷ bs) = gives-more d b bs (readBy terms b) refl (readDesks terms (suc d) bs) (gives-all (suc d) bs)
@@ -116,10 +114,10 @@ module _ (opening : ℕ) (books lengths : List ℕ) where
   all = readDesks (orderingRule opening) 1 parts
 
   pub days-taken : (ds : List Day) → (all ≡ days ds) ↔ TakesAll opening books lengths ds
-  days-taken ds = (λ e. taken (subst (Gives (orderingRule opening) 1 parts) e (gives-all (orderingRule opening) 1 parts)), λ t. read t)
+  days-taken ds = (λ e. taken (subst (GivesFrom (orderingRule opening) 1 parts) e (gives-all (orderingRule opening) 1 parts)), λ t. read t)
     where
-      taken : Gives (orderingRule opening) 1 parts (days ds) → TakesAll opening books lengths ds
-      taken g = unfold Gives in record {
+      taken : GivesFrom (orderingRule opening) 1 parts (days ds) → TakesAll opening books lengths ds
+      taken g = unfold GivesFrom in record {
         many = omega (arith, g .many, books-length lengths books);
         each = λ e h. takes (orderingRule opening) (bookAt lengths books e) (getD ds e noDay) .0
             (ap (readBy (orderingRule opening)) (sym (book-at lengths books e h)) ∙ g .each e (omega (arith, books-length lengths books)));
@@ -141,10 +139,10 @@ module _ (opening : ℕ) (books lengths : List ℕ) where
     pub here : readBy (orderingRule opening) (bookAt lengths books e) ≡ refused n p
 
   pub refused-at : (n p d : ℕ) → all ≡ refusedAt n p d → (e : ℕ) × (d ≡ e + 1) × RefusedAt n p e
-  refused-at n p d q = step (subst (Gives (orderingRule opening) 1 parts) q (gives-all (orderingRule opening) 1 parts))
+  refused-at n p d q = step (subst (GivesFrom (orderingRule opening) 1 parts) q (gives-all (orderingRule opening) 1 parts))
     where
-      step : Gives (orderingRule opening) 1 parts (refusedAt n p d) → (e : ℕ) × (d ≡ e + 1) × RefusedAt n p e
-      step g = unfold Gives in
+      step : GivesFrom (orderingRule opening) 1 parts (refusedAt n p d) → (e : ℕ) × (d ≡ e + 1) × RefusedAt n p e
+      step g = unfold GivesFrom in
           let r = g .2 in
           let l : g .0 < length lengths = omega (arith, r .inside, books-length lengths books) in (
             g .0,

@@ -1,9 +1,9 @@
 -- What is promised of the call for several desks holds. Assumes nothing.
-use Prim.Native.Nat.{ℕ, _+_, _*_, _≤_, _<_}
+use Prim.Native.Nat.{ℕ, _*_, _≤_}
 use native.Mathlib.Omega.{arith}
 use native.Mathlib.Decide.{decLe}
 use mathlib.Core.Bool.{Bool, true, false}
-use mathlib.Core.Path.{_≡_, refl, sym, ap, _∙_, subst}
+use mathlib.Core.Path.{_≡_, refl, sym, _∙_, subst}
 use mathlib.Core.List.{List, [], _∷_, flatten, List·Memᴰ, List·Memᴰ·head, List·Memᴰ·tail}
 use mathlib.Core.Logic.{_⊎_, inl, inr}
 use mathlib.Core.Option.{Option, none, some}
@@ -14,8 +14,7 @@ use Rattle.schedule.proofs.Orders.{perm-count}
 use Rattle.schedule.proofs.Numbers.{length-count}
 use Rattle.readers.specs.Reads.{orderingRule}
 use Rattle.readers.specs.Accepted.{AcceptedDay}
-use Rattle.outcomes.specs.Planning.{Outcome, gives, Planning}
-use Rattle.promises.specs.Promise.{Lent}
+use Rattle.outcomes.specs.Planning.{Outcome, gives}
 use Rattle.promises.proofs.Memory.{Kept, kept-no, kept-yes}
 use Rattle.promises.proofs.Promise.{ranges}
 use Rattle.promises.proofs.Numbers.{ordering-numbered}
@@ -26,7 +25,7 @@ use Rattle.several_lent.specs.Lent.{booksOf, lentAmiss}
 use Rattle.several_books.specs.Days.{DesksRead, refusedAt, days, readDesks, rowsOf}
 use Rattle.several_lent.proofs.Sums.{lent-right}
 use Rattle.several.specs.declared.SeveralAnswer.{SeveralAnswer}
-use Rattle.several.specs.Answers.{SaidOfDesks, saidSeveral, saidChosen}
+use Rattle.several.specs.Answers.{saidSeveral, saidChosen}
 use Rattle.several.specs.Calls.{desksOf, daysOutcome, severalCall}
 use Rattle.several.proofs.Outcomes.{days-narrow, days-none, days-some, call-amiss, call-refused}
 use Rattle.several_promises.specs.Table.{several, TakesAll, Right, SeveralTurned, lent, book, narrow, overtime}

@@ -1,5 +1,5 @@
 -- How the call for several desks is refused, exactly. Assumes nothing.
-use Prim.Native.Nat.{ℕ, _+_, _≤_, _<_}
+use Prim.Native.Nat.{ℕ, _+_, _≤_}
 use native.Mathlib.Omega.{arith}
 use native.Mathlib.Decide.{decLe}
 use mathlib.Core.Bool.{Bool, true, false}
@@ -12,14 +12,14 @@ use Rattle.schedule.specs.declared.Profile.the-variants.{Ordering}
 use Rattle.schedule.specs.Rows.{Day}
 use Rattle.schedule.proofs.Tests.{false-is-true}
 use Rattle.refusals.specs.Refusals.{byRange, byNarrow, byOvertime}
-use Rattle.readers.specs.Reads.{orderingRule, readBy}
+use Rattle.readers.specs.Reads.{orderingRule}
 use Rattle.readers.proofs.Told.{told-reads}
 use Rattle.book.specs.Rows.{refused}
 use Rattle.outcomes.specs.Planning.{Outcome, gives}
 use Rattle.promises.proofs.Accepted.{takes, book-refused}
 use Rattle.promises.proofs.Numbers.{ordering-numbered}
 use Rattle.overtime.specs.Choices.{Chosen, bestChoice}
-use Rattle.several_lent.specs.Lent.{booksOf, lentAmiss, LentRight}
+use Rattle.several_lent.specs.Lent.{booksOf, lentAmiss}
 use Rattle.several_books.specs.Days.{DesksRead, refusedAt, days, readDesks, rowsOf}
 use Rattle.several_lent.proofs.Sums.{lent-right}
 use Rattle.several.specs.declared.SeveralAnswer.{SeveralAnswer}
@@ -28,7 +28,7 @@ use Rattle.several.specs.Calls.{desksOf, daysOutcome, severalCall}
 use Rattle.several.specs.declared.SeveralAnswer.the-variants as several-answer
 use Rattle.several.proofs.Outcomes.{days-narrow, days-none, days-some, call-amiss, call-refused}
 use Rattle.several_promises.specs.Table.{several, RefusesAt, bookAt, TakesAll, Right, SeveralTurned, lent, book, narrow, overtime}
-use Rattle.several_promises.proofs.Books.{RefusedAt, days-taken, refused-at, at-refused}
+use Rattle.several_promises.proofs.Books.{days-taken, refused-at, at-refused}
 use Rattle.several_promises.proofs.Answered.{promise, call-of-days, told-as}
 
 module _ (opening : ℕ) (books lengths closings : List ℕ) (limit : ℕ) (b : List ℕ) where

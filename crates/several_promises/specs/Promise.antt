@@ -20,8 +20,7 @@ use Rattle.readers.specs.Reads.{orderingRule}
 use Rattle.promises.specs.Promise.{Lent}
 use Rattle.overtime.specs.Choices.{overtimes, greatestLate}
 use Rattle.overtime.specs.Best.{Measures, ChoiceOf, pairsBy, KeepLimit}
-use Rattle.several_books.specs.Days.{rowsOf}
-use Rattle.several_books.specs.Held.{noDay}
+use Rattle.several_books.specs.Days.{rowsOf, noDay}
 use Rattle.several.specs.Answers.{SaidOfDesks, saidChosen, saidNoAt}
 use Rattle.several.specs.Calls.{desksOf}
 use Rattle.several_promises.specs.Table.{several, RefusesAt, TakesAll, Right, SeveralTurned}

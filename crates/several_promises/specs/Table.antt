@@ -1,6 +1,6 @@
 -- The table of refusals of the call for several desks: under which condition it is refused, with the place and the desk. What is lent
 -- amiss comes first, then the books desk by desk, then 9, then 16. The proof is in proofs/Refused.antt.
--- Rests on: what is lent (several_books), the table of a book's refusals (promises), choices of orders (overtime).
+-- Rests on: what is lent (several_lent), the table of a book's refusals (promises), choices of orders (overtime).
 use Prim.Native.Nat.{ℕ, _+_, _≤_, _<_}
 use mathlib.Core.Path.{_≡_}
 use mathlib.Core.List.{List}
@@ -15,8 +15,7 @@ use Rattle.promises.specs.Vocabulary.{Refuses, Takes}
 use Rattle.promises.specs.Table.{BookRefused}
 use Rattle.overtime.specs.Best.{KeepLimit}
 use Rattle.several_lent.specs.Lent.{total, LentRight}
-use Rattle.several_books.specs.Days.{rowsOf}
-use Rattle.several_books.specs.Held.{noDay}
+use Rattle.several_books.specs.Days.{rowsOf, noDay}
 use Rattle.several.specs.Answers.{SaidOfDesks, saidSeveral}
 use Rattle.several.specs.Calls.{desksOf, severalCall}
 

@@ -81,26 +81,26 @@ mul-cursors c = search needs
 element-write-cursors : tie.Need-element-write-cursors Inv-loop μ-loop
 element-write-cursors c = search needs
 
-mul-greater : tie.Need-mul-greater Inv-loop μ-loop
-mul-greater c = search needs
+mul-later : tie.Need-mul-later Inv-loop μ-loop
+mul-later c = search needs
 
-add-greater : tie.Need-add-greater Inv-loop μ-loop
-add-greater c = search needs
+add-later : tie.Need-add-later Inv-loop μ-loop
+add-later c = search needs
 
-mul-greater-2 : tie.Need-mul-greater-2 Inv-loop μ-loop
-mul-greater-2 c = search needs
+mul-later-2 : tie.Need-mul-later-2 Inv-loop μ-loop
+mul-later-2 c = search needs
 
-mul-greater-3 : tie.Need-mul-greater-3 Inv-loop μ-loop
-mul-greater-3 c = let k = chosen c in record { fits = omega (arith, k .1) }
+mul-later-3 : tie.Need-mul-later-3 Inv-loop μ-loop
+mul-later-3 c = let k = chosen c in record { fits = omega (arith, k .1) }
 
-index-1-greater : tie.Need-index-1-greater Inv-loop μ-loop
-index-1-greater c = search needs
+index-1-later : tie.Need-index-1-later Inv-loop μ-loop
+index-1-later c = search needs
 
-index-2-greater : tie.Need-index-2-greater Inv-loop μ-loop
-index-2-greater c = chosen c .1
+index-2-later : tie.Need-index-2-later Inv-loop μ-loop
+index-2-later c = chosen c .1
 
-greater-requires : tie.Need-greater-requires Inv-loop μ-loop
-greater-requires c κs = search needs
+later-requires : tie.Need-later-requires Inv-loop μ-loop
+later-requires c κs = search needs
 
 mul-over : tie.Need-mul-over Inv-loop μ-loop
 mul-over c = search needs
@@ -143,12 +143,12 @@ loop-again c =
     let start = c .before .before .before .before .before .before .before .before .before .before .before .before .before in
     let loop = c .before .before .before .before .before .before .before .before .before .before .before .loop in
     let past = c .before .before .before .before .before .before .past in
-    let greater = c .before .before .before .greater in
+    let later = c .before .before .before .later in
     let over = c .over in
     let t = start in
     taking-more (t .args .plans .now) (t .args .fronts .now) (t .args .closings .now) (t .args .bound) (t .pre .2) _ _ _ _
     (loop .inv)
-    (omega arith) (omega arith) _ (past .ensures) (chosen (c .before .before .before .before .before) .0) _ _ (greater .ensures)
+    (omega arith) (omega arith) _ (past .ensures) (chosen (c .before .before .before .before .before) .0) _ _ (later .ensures)
     (over .ensures) (omega arith)
 
 returns-2 : tie.Need-returns-2 Inv-loop μ-loop
@@ -179,13 +179,13 @@ first-plans-spec =
     returns
     mul-cursors
     element-write-cursors
-    mul-greater
-    add-greater
-    mul-greater-2
-    mul-greater-3
-    index-1-greater
-    index-2-greater
-    greater-requires
+    mul-later
+    add-later
+    mul-later-2
+    mul-later-3
+    index-1-later
+    index-2-later
+    later-requires
     mul-over
     mul-over-2
     mul-over-3

@@ -3,7 +3,7 @@
 use native.Mathlib.Omega.{arith}
 use borrow.Author.Needs.{needs}
 use Rattle.schedule.proofs.SignedWords.{lowered-word}
-use Rattle.several.proofs.Days.{listed, all-rows, answer-narrow, answer-none, takes, sum-kept, can-order, answer-chosen}
+use Rattle.several.proofs.Days.{listed, all-rows, answer-narrow, answer-none, plans-taken, sum-kept, can-order, answer-chosen}
 use borrow.Author.Needs.{needs}
 use Rattle.several.proofs.days_answer.Statement.{statement}
 use Rattle.several.proofs.days_answer.Tie as tie
@@ -54,7 +54,7 @@ write-orders-requires c κs =
     let if1 = c .before .before .before .before .before .if1 in
     let t = start in
     let a = t .args in
-    let k = takes (t .pre .2 .0) (t .pre .2 .1) (a .free .now) (a .rows .now) (a .plans .now) (a .columns .now) (a .fronts .now)
+    let k = plans-taken (t .pre .2 .0) (t .pre .2 .1) (a .free .now) (a .rows .now) (a .plans .now) (a .columns .now) (a .fronts .now)
     (a .closings .now) (a .total) (t .pre .2 .2) (t .pre .0)
     (a .limit) (a .result .now) _ (choose .ensures) _ _ (late .given .1) in
     let rows = all-rows (t .pre .2 .0) (t .pre .2 .1) (a .free .now) (a .rows .now) (a .plans .now) (a .columns .now)
@@ -77,7 +77,7 @@ cast-t19 c =
     let late = c .before .before .before .before .before .before .late in
     let t = start in
     let a = t .args in
-    let k = takes (t .pre .2 .0) (t .pre .2 .1) (a .free .now) (a .rows .now) (a .plans .now) (a .columns .now) (a .fronts .now)
+    let k = plans-taken (t .pre .2 .0) (t .pre .2 .1) (a .free .now) (a .rows .now) (a .plans .now) (a .columns .now) (a .fronts .now)
     (a .closings .now) (a .total) (t .pre .2 .2) (t .pre .0)
     (a .limit) (a .result .now) _ (choose .ensures) _ _ (late .given .1) in
     let m = sum-kept (t .pre .2 .0) (t .pre .2 .1) (a .free .now) (a .rows .now) (a .plans .now) (a .columns .now) (a .fronts .now)
@@ -99,7 +99,7 @@ returns-3 c =
     let t = start in
     let a = t .args in
     λ opening ds r.
-    let k = takes opening ds (a .free .now) (a .rows .now) (a .plans .now) (a .columns .now) (a .fronts .now)
+    let k = plans-taken opening ds (a .free .now) (a .rows .now) (a .plans .now) (a .columns .now) (a .fronts .now)
     (a .closings .now) (a .total) r (t .pre .0)
     (a .limit) (a .result .now) _ (choose .ensures) _ _ (late .given .1) in
     answer-chosen opening ds (a .free .now) (a .rows .now) (a .plans .now) (a .columns .now) (a .fronts .now)

@@ -1,6 +1,5 @@
 -- `read_into` meets its contract: the refusal of the book, or its desk put into its place.
 -- Assumes nothing.
-use native.Mathlib.Omega.{arith}
 use borrow.Author.Needs.{needs}
 use Rattle.schedule.specs.declared.Profile.the-variants.{Ordering}
 use Rattle.rows.specs.InColumns.{jobsOf}

@@ -1,6 +1,5 @@
 -- `lent_amiss` meets its contract, test by test.
 -- Assumes nothing.
-use native.Mathlib.Omega.{arith}
 use Prim.Native.Nat.{ℕ}
 use borrow.Author.Needs.{needs}
 use mathlib.Core.Bool.{not}

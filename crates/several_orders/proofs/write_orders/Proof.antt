@@ -7,13 +7,13 @@ use lib.ListN.{length, length-take, length-drop}
 use Rattle.schedule.specs.Columns.{at}
 use borrow.Author.Needs.{needs}
 use Rattle.schedule.specs.Limits.{mostRows}
-use Rattle.several_orders.proofs.Writing.{Written, written-none, written-more, written-all, same-room, room}
+use Rattle.several_orders.proofs.Writing.{WrittenTo, written-none, written-more, written-all, same-room, room}
 use Rattle.several_orders.proofs.write_orders.Statement.{statement}
 use Rattle.several_orders.proofs.write_orders.Tie as tie
 
 abbrev Inv-loop : tie.InvT-loop
 Inv-loop free rows plans columns fronts desks bound result₀ at₀ d₀ result at d =
-    Written free rows plans columns fronts bound desks result₀ result at d
+    WrittenTo free rows plans columns fronts bound desks result₀ result at d
 
 abbrev μ-loop : tie.MeasureT-loop
 μ-loop free rows plans columns fronts desks bound result₀ at₀ d₀ result at d = desks - d
