@@ -36,7 +36,7 @@ pub enum Taken {
 const LARGEST_BOUND: u32 = 4_294_967_295;
 
 // The first place, from `from` on, of a lateness within the bound; or the count. No place before `from` has one.
-pub fn past(lates: &[u32; Desk::ROWS], from: usize, count: usize, bound: u32) -> usize
+pub fn place_within(lates: &[u32; Desk::ROWS], from: usize, count: usize, bound: u32) -> usize
     requires { ⌜ (count ≤ mostRows) × (length (now lates) ≡ mostRows) × (from ≤ placeWithin bound (take count (now lates))) ⌝ }
     ensures { λ r. ⌜ r ≡ placeWithin bound (take count (now (lates .entry))) ⌝ }
 {
@@ -77,7 +77,7 @@ fn first_plans(
     let mut d: usize = 0;
     while d < closings.len() {
         let count = plans[d];
-        let k = past(&fronts[2 * d + 1], cursors[d], count, bound);
+        let k = place_within(&fronts[2 * d + 1], cursors[d], count, bound);
         if k == count {
             return Taken::None;
         }

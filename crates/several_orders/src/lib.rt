@@ -30,7 +30,7 @@ pub fn write_orders(
     let mut at: usize = 0;
     let mut d: usize = 0;
     while d < desks {
-        let k = choice::past(&fronts[2 * d + 1], 0, plans[d], bound);
+        let k = choice::place_within(&fronts[2 * d + 1], 0, plans[d], bound);
         let late = fronts[2 * d + 1][k];
         plans::order_for(
             Profile::Ordering,

@@ -26,26 +26,26 @@ mul-count c = search needs
 element-copy-out-count : tie.Need-element-copy-out-count Inv-loop μ-loop
 element-copy-out-count c = search needs
 
-mul-past : tie.Need-mul-past Inv-loop μ-loop
-mul-past c = search needs
+mul-place-within : tie.Need-mul-place-within Inv-loop μ-loop
+mul-place-within c = search needs
 
-add-past : tie.Need-add-past Inv-loop μ-loop
-add-past c = search needs
+add-place-within : tie.Need-add-place-within Inv-loop μ-loop
+add-place-within c = search needs
 
-mul-past-2 : tie.Need-mul-past-2 Inv-loop μ-loop
-mul-past-2 c = search needs
+mul-place-within-2 : tie.Need-mul-place-within-2 Inv-loop μ-loop
+mul-place-within-2 c = search needs
 
-index-1-past : tie.Need-index-1-past Inv-loop μ-loop
-index-1-past c = search needs
+index-1-place-within : tie.Need-index-1-place-within Inv-loop μ-loop
+index-1-place-within c = search needs
 
-mul-past-3 : tie.Need-mul-past-3 Inv-loop μ-loop
-mul-past-3 c = search needs
+mul-place-within-3 : tie.Need-mul-place-within-3 Inv-loop μ-loop
+mul-place-within-3 c = search needs
 
-element-copy-out-past : tie.Need-element-copy-out-past Inv-loop μ-loop
-element-copy-out-past c = search needs
+element-copy-out-place-within : tie.Need-element-copy-out-place-within Inv-loop μ-loop
+element-copy-out-place-within c = search needs
 
-past-requires : tie.Need-past-requires Inv-loop μ-loop
-past-requires c κs =
+place-within-requires : tie.Need-place-within-requires Inv-loop μ-loop
+place-within-requires c κs =
     let start = c .before .before .before .before .before .before in
     let loop = c .before .before .before .before .loop in
     let l = start .pre .2 (loop .d) (omega arith) in
@@ -55,25 +55,25 @@ returns : tie.Need-returns Inv-loop μ-loop
 returns c =
     let start = c .before .before .before .before .before .before .before .before in
     let loop = c .before .before .before .before .before .before .loop in
-    let past = c .before .past in
+    let place-within = c .before .place-within in
     let if1 = c .if1 in
     let t = start in
     let l = loop in (
       none-within (t .args .plans .now) (t .args .fronts .now) (t .args .closings .now) (t .args .bound) (t .pre .2) (l .d)
           (omega arith)
-          (sym (past .ensures) ∙ if1 .taken),
+          (sym (place-within .ensures) ∙ if1 .taken),
       l .inv .behind,
     )
 
 -- The place that was found is that of a plan.
 chosen : (c : tie.Else1 Inv-loop μ-loop) →
-    let k = c .before .past .result in
+    let k = c .before .place-within .result in
     let plans = c .before .before .before .before .before .before .before .before .args .plans .now in
     (k < at plans (c .before .before .before .before .before .before .loop .d)) × (k < mostRows)
 chosen c =
     let t = c .before .before .before .before .before .before .before .before in
     inside (t .args .plans .now) (t .args .fronts .now) (t .args .closings .now) (t .args .bound) (t .pre .2)
-    (c .before .before .before .before .before .before .loop .d) (omega arith) _ (c .before .past .ensures) (c .if1 .left)
+    (c .before .before .before .before .before .before .loop .d) (omega arith) _ (c .before .place-within .ensures) (c .if1 .left)
 
 mul-cursors : tie.Need-mul-cursors Inv-loop μ-loop
 mul-cursors c = search needs
@@ -142,13 +142,13 @@ loop-again : tie.Need-loop-again Inv-loop μ-loop
 loop-again c =
     let start = c .before .before .before .before .before .before .before .before .before .before .before .before .before in
     let loop = c .before .before .before .before .before .before .before .before .before .before .before .loop in
-    let past = c .before .before .before .before .before .before .past in
+    let place-within = c .before .before .before .before .before .before .place-within in
     let later = c .before .before .before .later in
     let over = c .over in
     let t = start in
     taking-more (t .args .plans .now) (t .args .fronts .now) (t .args .closings .now) (t .args .bound) (t .pre .2) _ _ _ _
     (loop .inv)
-    (omega arith) (omega arith) _ (past .ensures) (chosen (c .before .before .before .before .before) .0) _ _ (later .ensures)
+    (omega arith) (omega arith) _ (place-within .ensures) (chosen (c .before .before .before .before .before) .0) _ _ (later .ensures)
     (over .ensures) (omega arith)
 
 returns-2 : tie.Need-returns-2 Inv-loop μ-loop
@@ -169,13 +169,13 @@ first-plans-spec =
     loop-holds
     mul-count
     element-copy-out-count
-    mul-past
-    add-past
-    mul-past-2
-    index-1-past
-    mul-past-3
-    element-copy-out-past
-    past-requires
+    mul-place-within
+    add-place-within
+    mul-place-within-2
+    index-1-place-within
+    mul-place-within-3
+    element-copy-out-place-within
+    place-within-requires
     returns
     mul-cursors
     element-write-cursors

@@ -21,26 +21,26 @@ abbrev μ-loop : tie.MeasureT-loop
 loop-holds : tie.Need-loop-holds Inv-loop μ-loop
 loop-holds c = written-none _ _ _ _ _ _ _ _
 
-mul-past : tie.Need-mul-past Inv-loop μ-loop
-mul-past c = search needs
+mul-place-within : tie.Need-mul-place-within Inv-loop μ-loop
+mul-place-within c = search needs
 
-add-past : tie.Need-add-past Inv-loop μ-loop
-add-past c = search needs
+add-place-within : tie.Need-add-place-within Inv-loop μ-loop
+add-place-within c = search needs
 
-mul-past-2 : tie.Need-mul-past-2 Inv-loop μ-loop
-mul-past-2 c = search needs
+mul-place-within-2 : tie.Need-mul-place-within-2 Inv-loop μ-loop
+mul-place-within-2 c = search needs
 
-index-1-past : tie.Need-index-1-past Inv-loop μ-loop
-index-1-past c = search needs
+index-1-place-within : tie.Need-index-1-place-within Inv-loop μ-loop
+index-1-place-within c = search needs
 
-mul-past-3 : tie.Need-mul-past-3 Inv-loop μ-loop
-mul-past-3 c = search needs
+mul-place-within-3 : tie.Need-mul-place-within-3 Inv-loop μ-loop
+mul-place-within-3 c = search needs
 
-element-copy-out-past : tie.Need-element-copy-out-past Inv-loop μ-loop
-element-copy-out-past c = search needs
+element-copy-out-place-within : tie.Need-element-copy-out-place-within Inv-loop μ-loop
+element-copy-out-place-within c = search needs
 
-past-requires : tie.Need-past-requires Inv-loop μ-loop
-past-requires c κs =
+place-within-requires : tie.Need-place-within-requires Inv-loop μ-loop
+place-within-requires c κs =
     let l = c .before .before .before .before .before .pre .1 (c .before .before .before .loop .d) (omega arith) .0 .listed in
     (l .few, l .late-places, omega arith)
 
@@ -60,11 +60,11 @@ fits-next c =
     (omega (arith, r, s, l .inv .rows-so-far, t .pre .2), s)
 
 -- The place that was found is that of a plan.
-planned : (c : tie.After-past Inv-loop μ-loop) → c .past .result < mostRows
+planned : (c : tie.After-place-within Inv-loop μ-loop) → c .place-within .result < mostRows
 planned c =
     let t = c .before .before .before .before .before .before in
     let p = t .pre .1 (c .before .before .before .before .loop .d) (omega arith) in
-    omega (arith, c .past .ensures, p .1, p .0 .listed .few)
+    omega (arith, c .place-within .ensures, p .1, p .0 .listed .few)
 
 mul-late : tie.Need-mul-late Inv-loop μ-loop
 mul-late c = search needs
@@ -182,14 +182,14 @@ loop-again c =
     .before .loop in
     let loop-test = c .before .before .before .before .before .before .before .before .before .before .before .before .before
     .before .loop-test in
-    let past = c .before .before .before .before .before .before .before .before .before .before .before .past in
+    let place-within = c .before .before .before .before .before .before .before .before .before .before .before .place-within in
     let order-for = c .before .before .before .order-for in
     let t = start in
     let a = t .args in
     let l = loop in
     written-more (a .free .now) (a .rows .now) (a .plans .now) (a .columns .now) (a .fronts .now) (a .bound) (a .desks) (t .pre .1)
     _ (l .result) (l .at) (l .d)
-    (l .inv) (loop-test .taken) _ (past .ensures) _ (order-for .ensures .buffer)
+    (l .inv) (loop-test .taken) _ (place-within .ensures) _ (order-for .ensures .buffer)
 
 same-length : tie.Need-same-length Inv-loop μ-loop
 same-length c =
@@ -215,13 +215,13 @@ write-orders-spec =
     Inv-loop
     μ-loop
     loop-holds
-    mul-past
-    add-past
-    mul-past-2
-    index-1-past
-    mul-past-3
-    element-copy-out-past
-    past-requires
+    mul-place-within
+    add-place-within
+    mul-place-within-2
+    index-1-place-within
+    mul-place-within-3
+    element-copy-out-place-within
+    place-within-requires
     mul-late
     add-late
     mul-late-2

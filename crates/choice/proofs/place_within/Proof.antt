@@ -1,4 +1,4 @@
--- `past` meets its contract. The invariant: the place is not passed. The measure is what is left of the count.
+-- `place_within` meets its contract. The invariant: the place is not passed. The measure is what is left of the count.
 -- Assumes nothing.
 use Prim.Native.Nat.{_≤_, _-_}
 use native.Mathlib.Omega.{arith}
@@ -6,8 +6,8 @@ use borrow.Author.Needs.{needs}
 use lib.ListN.{take}
 use Rattle.choice.specs.Lists.{placeWithin}
 use Rattle.choice.proofs.Places.{place-low, found, next}
-use Rattle.choice.proofs.past.Statement.{statement}
-use Rattle.choice.proofs.past.Tie as tie
+use Rattle.choice.proofs.place_within.Statement.{statement}
+use Rattle.choice.proofs.place_within.Tie as tie
 
 abbrev Inv-loop : tie.InvT-loop
 Inv-loop lates from count bound k₀ k = k ≤ placeWithin bound (take count lates)
@@ -48,6 +48,6 @@ returns-2 c =
     let l = c .before .loop in
     omega (arith, l .inv, place-low (a .bound) (a .count) (a .lates .now) (omega arith))
 
-pub past-spec : {M : Type 1} → statement M
-past-spec = tie.close
+pub place-within-spec : {M : Type 1} → statement M
+place-within-spec = tie.close
     (tie.spec Inv-loop μ-loop loop-holds mul-if1 element-copy-out-if1 returns add-k loop-less loop-again returns-2)
