@@ -194,8 +194,8 @@ pub fn of_several(answer: SeveralAnswer) -> Answer
             desk: 0,
             overtime: overtime,
         },
-        SeveralAnswer::Refused(number, place, desk) => Answer {
-            place: place,
+        SeveralAnswer::Refused(number, at, desk) => Answer {
+            place: at,
             count: 0,
             refusal: number,
             end: 0,
