@@ -1,4 +1,4 @@
--- The three properties of the calls by first come, first due hold, and they have one plan.
+-- The three properties of the calls by first come, first due hold, and they have one plan; so does what is promised of a later start.
 -- Assumes nothing.
 use Prim.Native.Nat.{ℕ, _*_, _≤_}
 use native.Mathlib.Omega.{arith}
@@ -26,9 +26,11 @@ use Rattle.calls.specs.Planned.{planned}
 use Rattle.calls.proofs.CallLaws.{list-of}
 use Rattle.promises.specs.Vocabulary.{told, list, Takes}
 use Rattle.promises.specs.Promise.{Property1, Property2, Property3}
+use Rattle.promises.specs.LaterStart.{LaterStartHolds}
 use Rattle.promises.proofs.Accepted.{accepts, takes}
 use Rattle.promises.proofs.Promise as of-calls
 use Rattle.promises.proofs.Promise.{some-rows, day-sound}
+use Rattle.promises.proofs.LaterStart as later-start
 use Rattle.first_come.specs.Promise.{OnePlan, OnePlanHolds}
 
 pub lent-memory : (opening : ℕ) → Property1 (firstCome opening)
@@ -39,6 +41,9 @@ definitions-hold opening = of-calls.definitions-hold (firstCome opening)
 
 pub cover-holds : (opening : ℕ) → Property3 (firstCome opening)
 cover-holds opening = of-calls.cover-holds (firstCome opening)
+
+pub later-start-holds : (opening : ℕ) (rest : List ℕ) → LaterStartHolds (firstCome opening) rest
+later-start-holds opening = later-start.later-start-holds (firstCome opening)
 
 one-plan : (opening : ℕ) (book : List ℕ) (day : Day) → Takes (firstCome opening) book day → OnePlan opening day
 one-plan opening book day t =

@@ -4,6 +4,7 @@ pub mod Column
 pub mod Conditions
 pub mod EndTests
 pub mod EndWord
+pub mod FreeWord
 pub mod NewNumbers
 pub mod Order
 pub mod Outcomes

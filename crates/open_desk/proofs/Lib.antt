@@ -5,3 +5,4 @@ pub mod Memory
 pub mod Histories
 pub mod Refused
 pub mod Promise
+pub mod LaterStart

@@ -30,7 +30,6 @@ use Rattle.schedule.specs.Rows.{noRow, Day, withOpening}
 use Rattle.schedule.proofs.Filling.{mapped-at}
 use Rattle.schedule.proofs.Ranges.{in-range}
 use Rattle.schedule.proofs.Tests.{true-is}
-use Rattle.refusals.specs.declared.Tested.the-variants.{Passed}
 use Rattle.row_reader.specs.NearestMinute.{lengthOf}
 use Rattle.grammar.specs.Books.{Entry, due, rowBy, dayBy, Tells}
 use Rattle.readers.specs.Reads.{orderingRule}
@@ -48,7 +47,7 @@ use Rattle.promises.specs.Promise.{Covered, PlanOrders}
 use Rattle.promises.proofs.Accepted.{takes}
 use Rattle.promises.proofs.Kept.{list-front, covered, plan-orders}
 use Rattle.promises.proofs.Memory as memory
-use Rattle.running.specs.Running.{Running, jobIn, between, startTests, endAt, worstAt}
+use Rattle.running.specs.Running.{Running, jobIn, between, endAt, worstAt}
 use Rattle.running.specs.Words.{countIn, openingIn, times, pages, leftTo, running, isDesk, keepsPages}
 use Rattle.running.proofs.Fits.{between-two, desk-says, keeps-says, row-held, pages-held}
 use Rattle.running.proofs.Starts.{may-start}
@@ -58,7 +57,7 @@ use Rattle.rows_left.proofs.Gathering.{left-ranged}
 use Rattle.desk_open.specs.Opens.{openedWords}
 use Rattle.desk_open.proofs.Opened.{opened-held}
 use Rattle.desk_open.proofs.OpenCall.{open-yes}
-use Rattle.desk_start.proofs.StartLaws.{start-no, start-yes}
+use Rattle.desk_start.proofs.StartLaws.{start-yes}
 use Rattle.desk_pace.specs.Paces.{jobByPace}
 use Rattle.desk_pace.proofs.LeftTests.{back-passed}
 use Rattle.desk_pace.proofs.PaceLaws.{tests-inside, pace-no, pace-yes}
@@ -73,7 +72,7 @@ use Rattle.open_desk.specs.Table.{StartTurned, PaceTurned, CanPlan, Desk
 use Rattle.open_desk.specs.Table as table
 use Rattle.open_desk.specs.Promise.{DeskProperty1, DeskProperty2, AfterCalls, OpenDesk}
 use Rattle.open_desk.proofs.Standing.{ReadAt, worst-told, end-told, left-read}
-use Rattle.open_desk.proofs.Starts.{Found, refuses, passes, found}
+use Rattle.open_desk.proofs.Starts.{start-passed}
 use Rattle.open_desk.proofs.Paces as paced
 use Rattle.open_desk.proofs.Histories.{alone, State, first, of-day, leaves}
 use Rattle.open_desk.proofs.Refused as refused
@@ -203,17 +202,6 @@ module _ (opening pace : ℕ) (day : Day) (first-words : List ℕ) (calls : List
   keeps : keepsPages words ≡ true
   keeps = keeps-says words .1 (s .keeps)
 
-  -- A start that is not refused has passed its tests.
-  has-passed : (i m : ℕ) → deskStart words i m .answer .number ≡ 0 → startTests (running words) i m ≡ Passed
-  has-passed i m accepted-it = step (found (running words) i m)
-    where
-      step : Found (running words) i m → startTests (running words) i m ≡ Passed
-      step (refuses n p l t u only) =
-          let no = ap (λ o. saidStart (o .answer) .number) (start-no words i m desk n p t) in
-          let z : ⊥ = omega (arith, accepted-it, no, l) in
-          absurd z
-      step (passes t never) = t
-
   abbrev paceOf : ℕ → ℕ
   paceOf = paceFor pace done
 
@@ -222,7 +210,7 @@ module _ (opening pace : ℕ) (day : Day) (first-words : List ℕ) (calls : List
       deskStart words i m .answer ≡
       saidMoved (endOfStart opening day paceOf s) (worstOf (map (latenessOfStart opening day paceOf) (startsAmong done ++ (s ∷ []))))
   start-moves i m accepted-it =
-      let passed = has-passed i m accepted-it in
+      let passed = start-passed words i m accepted-it .1 in
       let row = of-day opening pace day done words s i m passed in
       ap (λ o. saidStart (o .answer)) (start-yes words i m desk passed) ∙
       (ap (λ (d : Running). saidMoved (endAt d i m) (worstAt d i m)) (s .held) ∙
@@ -230,7 +218,7 @@ module _ (opening pace : ℕ) (day : Day) (first-words : List ℕ) (calls : List
 
   none-past : latestStart < now-held .minute → (i m : ℕ) → ¬ (deskStart words i m .answer .number ≡ 0)
   none-past late i m accepted-it =
-      let may = may-start (running words) i m (has-passed i m accepted-it) in
+      let may = may-start (running words) i m (start-passed words i m accepted-it .1) in
       omega (arith, late, may .after, may .early, ap (λ (d : Running). d .minute) (s .held))
 
   -- Changes of pace.

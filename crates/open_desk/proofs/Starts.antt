@@ -1,10 +1,10 @@
--- A start on a running desk is turned down exactly as the table says.
+-- A start on a running desk is turned down exactly as the table says; one that is not refused has passed its tests.
 -- Assumes nothing.
 use Prim.Native.Nat.{ℕ, _≤_, _<_}
 use native.Mathlib.Omega.{arith}
 use mathlib.Core.Bool.{Bool, true, false, _||_}
-use mathlib.Core.Path.{_≡_, refl, sym, _∙_}
-use mathlib.Core.List.{List·Memᴰ}
+use mathlib.Core.Path.{_≡_, refl, sym, ap, _∙_}
+use mathlib.Core.List.{List, List·Memᴰ}
 use mathlib.Core.Logic.{_⊎_, inl, inr}
 use lib.Dec.{T, ltb}
 use lib.ListN.{length}
@@ -17,7 +17,11 @@ use Rattle.refusals.specs.declared.Tested.the-variants as tested
 use Rattle.refusals.specs.Refusals.{byUnlisted, byDone, byEarly}
 use Rattle.refusals.specs.Tests.{refuseIf, _then_}
 use Rattle.running.specs.Running.{Running, between, jobIn, startTests}
+use Rattle.running.specs.Words.{running, isDesk}
 use Rattle.running.proofs.Fits.{lies, between-two}
+use Rattle.desk_start.proofs.StartLaws.{start-none, start-no}
+use Rattle.open_desk.specs.Answers.{saidStart}
+use Rattle.open_desk.specs.History.{deskStart}
 use Rattle.open_desk.specs.Table.{StartTurned, unlisted, done, early}
 
 -- How the tests of a start come out: by one refusal, and the table has it and no other; or they are passed, and the table has none.
@@ -97,3 +101,17 @@ module _ (d : Running) (i m : ℕ) where
           never _ _ (unlisted u) = u (lies 1 n i (is-true _ e))
           never _ _ (done l h u) = u (stands-mem i (d .left) f)
           never _ _ (early l h u t) = not-early g t
+
+-- A start on lent words that is not refused is one on a desk, and has passed its tests.
+pub start-passed : (ws : List ℕ) (i m : ℕ) → deskStart ws i m .answer .number ≡ 0 →
+    (isDesk ws ≡ true) × (startTests (running ws) i m ≡ tested.Passed)
+start-passed ws i m granted = step (isDesk ws) refl
+  where
+    on : isDesk ws ≡ true → Found (running ws) i m → startTests (running ws) i m ≡ tested.Passed
+    on e (refuses n p l t u only) =
+        let z : ⊥ = omega (arith, granted, ap (λ o. saidStart (o .answer) .number) (start-no ws i m e n p t), l) in absurd z
+    on e (passes t never) = t
+
+    step : (b : Bool) → isDesk ws ≡ b → (isDesk ws ≡ true) × (startTests (running ws) i m ≡ tested.Passed)
+    step false e = let z : ⊥ = omega (arith, granted, ap (λ o. saidStart (o .answer) .number) (start-none ws i m e)) in absurd z
+    step true e = (e, on e (found (running ws) i m))

@@ -2,4 +2,5 @@ pub mod Answers
 pub mod History
 pub mod Table
 pub mod Promise
+pub mod LaterStart
 pub mod Worked

@@ -28,13 +28,13 @@ use Rattle.promises.specs.Promise.{Covered, PlanOrders, NamesSooner, Lis
 use Rattle.promises.proofs.Listed.{signed-back, plans-back, First, first-beating, mem-elem, elem-mem, nth-mem, later-ends}
 
 -- Signed numbers in a row.
-le-trans : {a b c : ℤ} → a ≤ℤ b → b ≤ℤ c → a ≤ℤ c
+pub le-trans : {a b c : ℤ} → a ≤ℤ b → b ≤ℤ c → a ≤ℤ c
 le-trans {a} {b} {c} h k = record { le = →leZ a c (omega (arith, leZ→ a b (h .le), leZ→ b c (k .le))) }
 
 lt-trans : {a b c : ℤ} → a ≤ℤ b → b <ℤ c → a <ℤ c
 lt-trans {a} {b} {c} h k = record { lt = →ltZ a c (omega (arith, leZ→ a b (h .le), ltZ→ b c (k .lt))) }
 
-lt-le : {a b : ℤ} → a <ℤ b → a ≤ℤ b
+pub lt-le : {a b : ℤ} → a <ℤ b → a ≤ℤ b
 lt-le {a} {b} h = record { le = →leZ a b (omega (arith, ltZ→ a b (h .lt))) }
 
 module _ (g : Planning) (s : Sound g) where

@@ -7,3 +7,4 @@ pub mod Numbers
 pub mod Refused
 pub mod Memory
 pub mod Promise
+pub mod LaterStart

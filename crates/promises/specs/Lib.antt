@@ -1,3 +1,4 @@
 pub mod Vocabulary
 pub mod Table
 pub mod Promise
+pub mod LaterStart

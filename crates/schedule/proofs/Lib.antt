@@ -19,6 +19,7 @@ pub mod Cover
 pub mod Arrival
 pub mod Profiles
 pub mod Opening
+pub mod LaterStart
 pub mod Ranges
 pub mod Matches
 pub mod RankPicks

@@ -7,6 +7,7 @@ pub mod Cover
 pub mod Arrival
 pub mod Profiles
 pub mod Opening
+pub mod LaterStart
 pub mod Ranges
 pub mod Offset
 pub mod Columns
