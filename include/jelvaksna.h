@@ -60,6 +60,13 @@
  * list has all of them by rising end, so their lateness falls. It never has
  * more plans than the book has rows.
  *
+ * A LATER START. Two books that differ in the free word alone, in range in both,
+ * are accepted alike, or their lists are refused with one number and place.
+ * Where the second is free d minutes later, each plan of its list is met by one
+ * of the first list with both numbers no greater, and each plan of the first
+ * list by one of its list with both at most d larger. It may list more plans or
+ * fewer, so the plan that meets another may have another number.
+ *
  * FIRST COME, FIRST DUE is a profile for books where a transcript released
  * earlier is never due later. It is chosen by calling it: each call, but those
  * of the open desk and that of several desks, has another of its name with

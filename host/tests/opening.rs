@@ -5,29 +5,11 @@
 mod common;
 
 use common::layout::PAGES;
-use common::{calls, compare, fail, fault, filled, refused, Call, Case, Effort};
-use jelvaksna::books::{self, Draft, Rng, REFUSED_OPENINGS};
+use common::{calls, compare, fail, fault, filled, refused, Call, Case, Effort, PROFILES};
+use jelvaksna::books::{self, Draft, REFUSED_OPENINGS};
 use jelvaksna::desk_model::Desk;
-use jelvaksna::linked::{self, desk, first_come};
-use jelvaksna::{refusal, word, Profile, Refusal, DESK_WORDS, MAX_OPENING};
-
-const PROFILES: [Profile; 2] = [Profile::OrderingRule, Profile::FirstCome];
-
-/// An accepted day of a profile.
-fn accepted(rng: &mut Rng, case: Case, rows: usize) -> Draft {
-    match case.profile {
-        Profile::OrderingRule => books::accepted(rng, case.accepted_opening(), rows),
-        Profile::FirstCome => books::first_come(rng, rows),
-    }
-}
-
-/// A day of which two rows disagree, or cross.
-fn clashing(rng: &mut Rng, profile: Profile, rows: usize) -> Draft {
-    match profile {
-        Profile::OrderingRule => books::disagreeing(rng, rows),
-        Profile::FirstCome => books::crossing(rng, rows),
-    }
-}
+use jelvaksna::linked::desk;
+use jelvaksna::{refusal, word, Refusal, DESK_WORDS, MAX_OPENING};
 
 /// The calls that are told an opening, on a book of two rows: in their right, and with every fault that
 /// is looked for after the book.
@@ -60,7 +42,8 @@ fn refused_before_anything_else() {
     let mut rng = Case::new("refused before anything else", 0).rng();
     let mut made = 0;
     for profile in PROFILES {
-        let clash = clashing(&mut rng, profile, 2).words();
+        let of = Case::of(profile, "refused before anything else", 0);
+        let clash = of.clashing_day(&mut rng, 2).words();
         let any = books::random_words(&mut rng, 40);
         let tail = [&sound[..], &[0]].concat();
         let books: [&[u32]; 8] = [
@@ -105,7 +88,7 @@ fn every_opening() {
                 let case = Case::of(profile, "every opening", i).with_opening(opening);
                 let mut rng = case.rng();
                 let rows = 1 + rng.below(9);
-                let book = accepted(&mut rng, case, rows).words();
+                let book = case.day(&mut rng, rows).words();
                 let day = case.read(&book);
                 assert_eq!(day.is_ok(), opening <= 30);
                 for call in calls(&mut rng, &day, Effort::Few) {
@@ -126,7 +109,7 @@ fn idle_plus_openings_plus_lengths() {
         let case = Case::of(profile, test, i).accepted();
         let mut rng = case.rng();
         let rows = books::some_rows(&mut rng, 256);
-        let draft = accepted(&mut rng, case, rows);
+        let draft = case.day(&mut rng, rows);
         let (book, opening) = (draft.words(), i64::from(case.opening));
         fault::watch(case, &book);
         for _ in 0..3 {
@@ -140,11 +123,7 @@ fn idle_plus_openings_plus_lengths() {
                 lengths += length;
                 minute = minute.max(row.release) + opening + length;
             }
-            let told = match profile {
-                Profile::OrderingRule => linked::verdict(case.opening, &book, &posting),
-                Profile::FirstCome => first_come::verdict(case.opening, &book, &posting),
-            };
-            let end = i64::from(told.expect("a posting").0.end);
+            let end = i64::from(case.posted(&book, &posting).end);
             let sum = idle + rows as i64 * opening + lengths;
             if sum != end - draft.free {
                 let what = format!("  idle {idle}, lengths {lengths}, end {end}");
@@ -169,8 +148,8 @@ fn as_good_as_longer_lengths() {
         let mut rng = case.rng();
         let rows = 2 + rng.below(20);
         let draft = match i % 6 {
-            0 => clashing(&mut rng, profile, rows),
-            _ => accepted(&mut rng, case, rows),
+            0 => case.clashing_day(&mut rng, rows),
+            _ => case.day(&mut rng, rows),
         };
         let Some(longer) = draft.lengthened(case.opening) else {
             continue;
@@ -204,7 +183,7 @@ fn a_desk_as_good_as_one_of_longer_lengths() {
         let case = Case::new(test, i).accepted();
         let mut rng = case.rng();
         let rows = 1 + rng.below(12);
-        let draft = accepted(&mut rng, case, rows);
+        let draft = case.day(&mut rng, rows);
         let Some(longer) = draft.lengthened(case.opening) else {
             continue;
         };

@@ -1,5 +1,5 @@
--- The days worked through, M1 to M13, days with classes, with rows as they arrive, with reading times between whole minutes and with
--- opening minutes: the table, and the theorem that every entry holds of the definitions. Rests on: the calls' Days.
+-- The days worked through, M1 to M13, days with classes, with rows as they arrive, with reading times between whole minutes, with opening
+-- minutes and with a later free minute: the table, and the theorem that every entry holds of the definitions. Rests on: the calls' Days.
 use Prim.Native.Nat.{ℕ}
 use mathlib.Core.Path.{_≡_, refl}
 use mathlib.Core.List.{List, [], _∷_, map}
@@ -43,8 +43,11 @@ oneRow = book 7 60 (entry 901 3 4 10 ∷ [])
 abbrev pub equalRows : List ℕ
 equalRows = book 0 60 (entry 901 0 2 5 ∷ entry 902 0 2 5 ∷ [])
 
+abbrev pub fourRowsFrom : (free : ℕ) → List ℕ
+fourRowsFrom free = book free 60 (entry 901 1 1 5 ∷ entry 902 0 10 12 ∷ entry 903 101 1 104 ∷ entry 904 100 20 122 ∷ [])
+
 abbrev pub fourRows : List ℕ
-fourRows = book 0 60 (entry 901 1 1 5 ∷ entry 902 0 10 12 ∷ entry 903 101 1 104 ∷ entry 904 100 20 122 ∷ [])
+fourRows = fourRowsFrom 0
 
 abbrev pub mixedRows : List ℕ
 mixedRows = book 0 60 (entry 904 100 20 122 ∷ entry 901 1 1 5 ∷ entry 903 101 1 104 ∷ entry 902 0 10 12 ∷ [])
@@ -72,6 +75,10 @@ nearestRows due = book 0 50 (entry 901 1 1 5 ∷ entry 902 0 8 due ∷ [])
 
 abbrev pub soldRow : (pages pace : ℕ) → List ℕ
 soldRow pages pace = book 0 pace (sold 901 10 pages 0 ∷ [])
+
+-- Two rows whose list has more plans, then fewer, from later free minutes.
+abbrev pub pushedRows : (free : ℕ) → List ℕ
+pushedRows free = book free 60 (entry 901 0 5 9 ∷ entry 902 2 1 7 ∷ [])
 
 -- A row in which another word stands in the place of the due word.
 abbrev pub otherWord : ℕ → ℕ → List ℕ
@@ -188,6 +195,14 @@ days =
     withMinutes 31 (plan (twoRows 12) 3 [] gets turnedDown 3 0 []) ∷
     withMinutes 31 (posting (twoRows 12) [] gets judges (verdict-answer.Refused 3 0)) ∷
     withMinutes 31 (rowPlaceOf fourRows 2 gets finds (row-place.At 6)) ∷
+    -- A later start. M13 from 1 has the plans that it has from 0, and from 5 the second is 4 late; from 50 there is one plan. Two rows have
+    -- one plan from 0, two from 1, and one from 2.
+    (list (fourRowsFrom 1) (0 ∷ 0 ∷ 0 ∷ 0 ∷ 0 ∷ 0 ∷ 0 ∷ 0 ∷ []) gets plans 2 (121 ∷ 17 ∷ 122 ∷ 0 ∷ 0 ∷ 0 ∷ 0 ∷ 0 ∷ [])) ∷
+    (list (fourRowsFrom 5) (0 ∷ 0 ∷ 0 ∷ 0 ∷ 0 ∷ 0 ∷ 0 ∷ 0 ∷ []) gets plans 2 (121 ∷ 17 ∷ 122 ∷ 4 ∷ 0 ∷ 0 ∷ 0 ∷ 0 ∷ [])) ∷
+    (list (fourRowsFrom 50) (0 ∷ 0 ∷ 0 ∷ 0 ∷ 0 ∷ 0 ∷ 0 ∷ 0 ∷ []) gets plans 1 (121 ∷ 49 ∷ 0 ∷ 0 ∷ 0 ∷ 0 ∷ 0 ∷ 0 ∷ [])) ∷
+    (printing (pushedRows 0) gets prints (listing 2 (line 6 (negsuc 0) (901 ∷ 902 ∷ []) ∷ []))) ∷
+    (printing (pushedRows 1) gets prints (listing 2 (line 7 (pos 0) (901 ∷ 902 ∷ []) ∷ line 8 (negsuc 0) (902 ∷ 901 ∷ []) ∷ []))) ∷
+    (printing (pushedRows 2) gets prints (listing 2 (line 8 (negsuc 0) (902 ∷ 901 ∷ []) ∷ []))) ∷
     []
 
 answered : map (answerBy orderingRule) days ≡ map (λ (d : Worked). d .told) days

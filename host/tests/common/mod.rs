@@ -6,8 +6,8 @@ pub mod fault;
 pub mod fence;
 pub mod layout;
 
-use jelvaksna::books::{self, Rng, OPENINGS};
-use jelvaksna::linked::{first_come::plain as first_come, plain as standard, Answer};
+use jelvaksna::books::{self, Draft, Rng, OPENINGS};
+use jelvaksna::linked::{self, first_come::plain as first_come, plain as standard, Answer};
 use jelvaksna::model::{self, Day};
 use jelvaksna::{Pair, Profile, Refusal, MAX_OPENING};
 
@@ -130,6 +130,8 @@ pub fn of_pair(pair: Pair) -> Answer {
     }
 }
 
+pub const PROFILES: [Profile; 2] = [Profile::OrderingRule, Profile::FirstCome];
+
 /// Which case of which test is running, for the report of a failure; the profile it calls, and the
 /// opening minutes that the calls are told.
 #[derive(Clone, Copy, Debug)]
@@ -175,6 +177,41 @@ impl Case {
             0..=MAX_OPENING => self.opening,
             _ => OPENINGS[self.case as usize % OPENINGS.len()],
         }
+    }
+
+    /// An accepted day of the profile.
+    pub fn day(&self, rng: &mut Rng, rows: usize) -> Draft {
+        match self.profile {
+            Profile::OrderingRule => books::accepted(rng, self.accepted_opening(), rows),
+            Profile::FirstCome => books::first_come(rng, rows),
+        }
+    }
+
+    /// A day of which two rows disagree, or cross.
+    pub fn clashing_day(&self, rng: &mut Rng, rows: usize) -> Draft {
+        match self.profile {
+            Profile::OrderingRule => books::disagreeing(rng, rows),
+            Profile::FirstCome => books::crossing(rng, rows),
+        }
+    }
+
+    /// The plans that the archive lists.
+    pub fn plans(&self, book: &[u32]) -> Result<Vec<Pair>, Refusal> {
+        fault::watch(*self, book);
+        match self.profile {
+            Profile::OrderingRule => linked::plans(self.opening, book),
+            Profile::FirstCome => linked::first_come::plans(self.opening, book),
+        }
+    }
+
+    /// The end and the worst lateness of a posting, as the archive's verdict tells them.
+    pub fn posted(&self, book: &[u32], posting: &[u32]) -> Pair {
+        fault::watch(*self, book);
+        let told = match self.profile {
+            Profile::OrderingRule => linked::verdict(self.opening, book, posting),
+            Profile::FirstCome => linked::first_come::verdict(self.opening, book, posting),
+        };
+        told.expect("a posting").0
     }
 
     /// The book as the model reads it.
