@@ -78,10 +78,10 @@ left-moves job t later [] h =
 left-moves job t later (i ∷ is) h = later-start job t later h .lists (i ∷ is)
 
 -- Two desks that hold the same rows, of which the same are left.
-rest : (ws vs b c : List ℕ) → running vs .rows ≡ running ws .rows → running vs .left ≡ running ws .left →
+same-left : (ws vs b c : List ℕ) → running vs .rows ≡ running ws .rows → running vs .left ≡ running ws .left →
     running ws .minute ≤ running vs .minute → deskList ws b .answer .number ≡ 0 → deskList vs c .answer .number ≡ 0 →
     ListMoves (running vs .minute - running ws .minute) (listed (deskList ws b)) (listed (deskList vs c))
-rest ws vs b c rows left h x y =
+same-left ws vs b c rows left h x y =
     let d = running ws in
     let later : listed (deskList vs c) ≡ plansFrom (jobIn (d .rows)) (running vs .minute) (d .left) =
     listed-left vs c y ∙ (λ i. plansFrom (jobIn (rows i)) (running vs .minute) (left i)) in
@@ -94,7 +94,7 @@ started ws i m granted =
     ap (λ o. running (o .buffer)) (start-yes ws i m (p .0) (p .1)) ∙ moved-held ws (desk-says ws .0 (p .0)) i m (p .1) .1
 
 pub later-desk : LaterDesk
-later-desk = record { rest = rest; next = next }
+later-desk = record { same-left = same-left; next = next }
   where
     next : (ws b c : List ℕ) (i m later : ℕ) → m ≤ later →
         let soon = deskStart ws i m in
@@ -111,5 +111,5 @@ later-desk = record { rest = rest; next = next }
         let late = ap (λ (d : Running). d .minute) e in
         let apart : running us .minute - running vs .minute ≡ later - m = omega (arith, soon, late, h) in
         subst (λ (n : ℕ). ListMoves n (listed (deskList vs b)) (listed (deskList us c))) apart
-        (rest vs us b c (ap (λ (d : Running). d .rows) e ∙ sym (ap (λ (d : Running). d .rows) a))
+        (same-left vs us b c (ap (λ (d : Running). d .rows) e ∙ sym (ap (λ (d : Running). d .rows) a))
         (ap (λ (d : Running). d .left) e ∙ sym (ap (λ (d : Running). d .left) a)) (omega (arith, soon, late)) x y)

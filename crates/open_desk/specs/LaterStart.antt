@@ -11,7 +11,7 @@ use Rattle.open_desk.specs.History.{deskStart, deskList}
 
 pub record LaterDesk : Type 0 where
   -- Two desks that hold the same rows, of which the same are left, at two minutes.
-  pub rest : (ws vs b c : List ℕ) → running vs .rows ≡ running ws .rows → running vs .left ≡ running ws .left →
+  pub same-left : (ws vs b c : List ℕ) → running vs .rows ≡ running ws .rows → running vs .left ≡ running ws .left →
       running ws .minute ≤ running vs .minute → deskList ws b .answer .number ≡ 0 → deskList vs c .answer .number ≡ 0 →
       ListMoves (running vs .minute - running ws .minute) (listed (deskList ws b)) (listed (deskList vs c))
   -- So it is where the next row is started at one minute or at a later one.
