@@ -10,7 +10,6 @@ use mathlib.Core.Option.{some, Option·some-injective}
 use lib.ListN.{length}
 use lib.Signed.{_≤ℤ_}
 use Rattle.schedule.specs.Limits.{latestMinute}
-use Rattle.schedule.specs.declared.Profile.{Profile}
 use Rattle.schedule.specs.Rows.{Day, jobs, rowNumbers}
 use Rattle.schedule.specs.Desk.{Pair}
 use Rattle.schedule.specs.Plans.{plans}
@@ -46,14 +45,15 @@ module _ (terms : Terms) (free later : ℕ) (rest : List ℕ) (f : free ≤ late
       let own : day ≡ dayOf free (day .rows) = λ i. dayOf (own-minute free rest day t .0 i) (day .rows) in
       free-word free later rest f l .rows (day .rows) .0 (subst (Tells (bookFrom free rest)) own t)
 
-  accepts-too : (profile : Profile) (day : Day) → Accepts profile (bookFrom free rest) day →
-      Accepts profile (bookFrom later rest) (dayOf later (day .rows))
-  accepts-too profile day a = record { tells = tells-too day (a .tells); no-clash = a .no-clash }
+  accepts-too : (day : Day) → Accepts (terms .profile) (bookFrom free rest) day →
+      Accepts (terms .profile) (bookFrom later rest) (dayOf later (day .rows))
+  accepts-too day a = record { tells = tells-too day (a .tells); no-clash = a .no-clash }
 
   takes-too : (day : Day) → Takes terms (bookFrom free rest) day → Takes terms (bookFrom later rest) (dayOf later (day .rows))
-  takes-too day t = record { opening = t .opening; accepts = accepts-too (terms .profile) day (t .accepts) }
+  takes-too day t = record { opening = t .opening; accepts = accepts-too day (t .accepts) }
 
-  refused-too : {profile : Profile} (n p : ℕ) → BookRefused profile (bookFrom free rest) n p → BookRefused profile (bookFrom later rest) n p
+  refused-too : (n p : ℕ) → BookRefused (terms .profile) (bookFrom free rest) n p →
+      BookRefused (terms .profile) (bookFrom later rest) n p
   refused-too _ _ (by-word n p w) = by-word n p (free-word free later rest f l .wrong n p .0 w)
   refused-too _ _ (disorder e day t k c) = disorder e (dayOf later (day .rows)) (tells-too day t) k c
   refused-too _ _ (crossed e day t k c) = crossed e (dayOf later (day .rows)) (tells-too day t) k c
@@ -158,8 +158,8 @@ lists-move terms rest free later h b c x y =
 pub later-start-holds : (terms : Terms) (rest : List ℕ) → LaterStartHolds terms rest
 later-start-holds terms rest = record {
   accepted = λ free later f l rows. (
-    accepts-too terms free later rest f l (terms .profile) (dayOf free rows),
-    accepts-too terms later free rest l f (terms .profile) (dayOf later rows),
+    accepts-too terms free later rest f l (dayOf free rows),
+    accepts-too terms later free rest l f (dayOf later rows),
   );
   refused = λ free later f l b n p. (refuses-too terms free later rest f l b n p, refuses-too terms later free rest l f b n p);
   lists = lists-move terms rest;
