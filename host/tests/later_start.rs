@@ -77,21 +77,19 @@ impl Seen {
         }
         self.pairs += 1;
         self.several += u64::from(earlier.len() > 1 || after.len() > 1);
-        self.unmoved += u64::from(minutes > 0 && earlier == after);
+        self.unmoved += u64::from(earlier == after);
         self.more += u64::from(after.len() > earlier.len());
         self.fewer += u64::from(after.len() < earlier.len());
-        if minutes > 0 {
-            match met(minutes - 1, earlier, after) {
-                false => self.whole += 1,
-                true => self.part += 1,
-            }
+        match met(minutes - 1, earlier, after) {
+            false => self.whole += 1,
+            true => self.part += 1,
         }
     }
 
-    /// Every two of the lists, each from its minute.
+    /// Every two of the lists, each from its minute; the minutes rise.
     fn each_two(&mut self, case: Case, book: &[u32], lists: Vec<(u32, Vec<Pair>)>) {
         for (at, (later, after)) in lists.iter().enumerate() {
-            for (minute, earlier) in &lists[..=at] {
+            for (minute, earlier) in &lists[..at] {
                 self.lists(case, book, [(*minute, earlier), (*later, after)]);
             }
         }

@@ -1,4 +1,4 @@
--- The three properties of the calls by first come, first due hold, and they have one plan; so does what is promised of a later start.
+-- The three properties of the calls by first come, first due hold, and what is promised of a later start; and they have one plan.
 -- Assumes nothing.
 use Prim.Native.Nat.{ℕ, _*_, _≤_}
 use native.Mathlib.Omega.{arith}
