@@ -44,7 +44,7 @@ module _ {n : ℕ} {release length₀ due rows release′ length′ due′ by : 
   same : (k : ℕ) → 1 ≤ k → k ≤ n → job′ k ≡ job (at rows k)
   same = ranked-jobs (t .releases-ranked) (t .lengths-ranked) (t .dues-ranked)
 
-  new : Renumbers n job job′ (at rows)
+  pub new : Renumbers n job job′ (at rows)
   new = by-rank n job job′ (at rows) (t .by-rank) same
 
   pub limits-ranked : Limits job′

@@ -154,7 +154,7 @@ fn order_by_rank<'a>(
 }
 
 // The rows of the first k ranks of an order, into a lent buffer.
-fn write_order(order: &[u32; Desk::ROWS], rows: &[u32; Desk::PLACES], k: usize, out: &mut [u32])
+pub fn write_order(order: &[u32; Desk::ROWS], rows: &[u32; Desk::PLACES], k: usize, out: &mut [u32])
     requires { ⌜ (k ≤ mostRows) × (k ≤ length (now out)) × (length (now order) ≡ mostRows) ×
         ((i : ℕ) → i < k → at (now order) i ≤ mostRows) ⌝ }
     ensures { λ _. ⌜ now (out .exit) ≡ map (at (now (rows .entry))) (take k (now (order .entry))) ++ drop k (now (out .entry)) ⌝ }

@@ -1,0 +1,48 @@
+-- `latest_for` meets its contract: what is found of the rows by rank answers for the rows, and the order is written as rows.
+-- Assumes nothing.
+use borrow.Author.Needs.{needs}
+use mathlib.Core.Path.{refl}
+use borrow.Author.Tests.{not-true, not-false}
+use Rattle.plans.proofs.Ranked.{limits-ranked, tables}
+use Rattle.latest_search.proofs.Starts.{start-never, order-long, order-high, start-found}
+use Rattle.latest_search.proofs.latest_for.Statement.{statement}
+use Rattle.latest_search.proofs.latest_for.Tie as tie
+
+tables-requires : tie.Need-tables-requires
+tables-requires c κs = let p = c .before .before .before .before .before .before .pre in (p .0, (p .1 .1, refl, refl, refl, refl, refl))
+
+halve-requires : tie.Need-halve-requires
+halve-requires c κs =
+    let p = c .before .before .before .before .before .before .before .before .before .before .before .pre in
+    let t = c .before .before .before .before .tables .ensures in
+    (limits-ranked t (p .0), (tables t (p .0) (p .1 .1), p .1 .0))
+
+returns : tie.Need-returns
+returns c =
+    let p = c .before .before .before .before .before .before .before .before .before .before .before .before .before .pre in
+    start-never (c .before .before .before .before .before .before .tables .ensures) (p .0) _ _ (p .1 .0) (p .1 .1) (p .1 .2) _ _ (c .before .halve .ensures) (not-true _ (c .if1 .taken))
+
+write-order-requires : tie.Need-write-order-requires
+write-order-requires c κs =
+    let p = c .before .before .before .before .before .before .before .before .before .before .before .before .before .before .before .before .before .pre in
+    let t = c .before .before .before .before .before .before .before .before .before .before .tables .ensures in
+    let out = c .before .before .before .before .before .before .before .before .before .before .before .before .before .before .before .before .before .args .out .now in
+    let f = not-false _ (c .before .before .before .before .if1 .left) in (
+      p .1 .1,
+      p .1 .3,
+      order-long t (p .0) _ _ (p .1 .0) (p .1 .1) (p .1 .2) out _ (c .before .before .before .before .before .halve .ensures) f,
+      order-high t (p .0) _ _ (p .1 .0) (p .1 .1) (p .1 .2) out _ (c .before .before .before .before .before .halve .ensures) f,
+    )
+
+same-length : tie.Need-same-length
+same-length c = search needs
+
+returns-2 : tie.Need-returns-2
+returns-2 c =
+    let p = c .before .before .before .before .before .before .before .before .before .before .before .before .before .before .before .before .before .before .before .before .pre in
+    start-found (c .before .before .before .before .before .before .before .before .before .before .before .before .before .tables .ensures) (p .0) _ _ (p .1 .0) (p .1 .1) (p .1 .2) _ _ (c .before .before .before .before .before .before .before .before .halve .ensures) (not-false _ (c .before .before .before .before .before .before .before .if1 .left)) _ (c .before .before .write-order .ensures)
+
+pub latest-for-spec : {M : Type 1} → statement M
+latest-for-spec =
+    tie.close
+    (tie.spec tables-requires halve-requires returns write-order-requires same-length returns-2)
