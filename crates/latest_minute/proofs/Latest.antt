@@ -4,7 +4,7 @@ use native.Mathlib.Omega.{arith}
 use native.Mathlib.Decide.{decLe}
 use mathlib.Core.Bool.{Bool, true, false, _||_}
 use mathlib.Core.Path.{_≡_, refl, sym, _∙_, subst}
-use mathlib.Core.List.{List, _∷_, List·Memᴰ, List·Memᴰ·head, List·Memᴰ·tail, List·Memᴰ·not-nil, List·Memᴰ·cases-cons}
+use mathlib.Core.List.{List, [], _∷_, List·Memᴰ, List·Memᴰ·head, List·Memᴰ·tail, List·Memᴰ·not-nil, List·Memᴰ·cases-cons}
 use mathlib.Core.Logic.{_⊎_, inl, inr, _↔_}
 use mathlib.Core.Option.{Option, none, some, Option·some-injective, Option·none-ne-some}
 use lib.Dec.{T}
@@ -179,7 +179,10 @@ module _ (job : ℕ → Job) (left : List ℕ) (end late : ℤ) where
 
     start : (s : Start) → (latestStart job left end late ≡ some s) ↔
         (LatestFree job left end late (s .minute) × (orderFor job (s .minute) left late ≡ some (s .order)))
-    start s = (λ e. there e (latestFree job left end late) refl, λ l. start-some (s .minute) (found (s .minute) .1 (l .0)) (s .order) (l .1))
+    start s = (
+      λ e. there e (latestFree job left end late) refl,
+      λ l. start-some (s .minute) (found (s .minute) .1 (l .0)) (s .order) (l .1),
+    )
       where
         there : latestStart job left end late ≡ some s → (o : Option ℕ) → latestFree job left end late ≡ o →
             LatestFree job left end late (s .minute) × (orderFor job (s .minute) left late ≡ some (s .order))

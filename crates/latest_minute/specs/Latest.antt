@@ -3,7 +3,7 @@
 -- and lateness are any signed numbers. Rests on: the schedule's Limits, Desk, Picks, Plans.
 use Prim.Native.Nat.{ℕ, zero, suc, _≤_}
 use mathlib.Core.Bool.{Bool, false, cond, _&&_, _||_}
-use mathlib.Core.List.{List, _∷_}
+use mathlib.Core.List.{List, [], _∷_}
 use mathlib.Core.Logic.{_↔_}
 use mathlib.Core.Option.{Option, none, some}
 use lib.IntN.{ℤ, pos}

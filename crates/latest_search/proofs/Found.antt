@@ -30,7 +30,8 @@ use Rattle.latest_search.proofs.Halvings.{halvings-fall}
 -- A minute against the wanted end, raised.
 end-raised : (m end : ℕ) → leZ (pos m) (lowered end) ≡ leb (m + 2147483648) end
 end-raised m end =
-    let e : pos m ≡ lowered (m + 2147483648) = level (pos m) (lowered (m + 2147483648)) (omega (arith, sub-level (m + 2147483648) 2147483648)) in
+    let e : pos m ≡ lowered (m + 2147483648) =
+    level (pos m) (lowered (m + 2147483648)) (omega (arith, sub-level (m + 2147483648) 2147483648)) in
     ap (λ (z : ℤ). leZ z (lowered end)) e ∙ lowered-le (m + 2147483648) end
 
 -- Where the halving stands: `low` is in time, and the minute after `high` is not, if there is one.
@@ -53,7 +54,9 @@ module _ (job : ℕ → Job) (limits : Limits job) (n end bound : ℕ) where
           let k = g .kept (leb-true (s .desk .worst) bound h) in
           let m : endOf job t (take n order) ≡ s .desk .minute =
           sym (ap (λ (d : Desk). d .minute) (k .1) ∙ followed-end job limits t (take n order)) in
-          rw h (sym (ap (endsBy job (lowered end) t) (k .0) ∙ (ap (λ (x : ℕ). leZ (pos x) (lowered end)) m ∙ end-raised (s .desk .minute) end)))
+          let in-time : inTimeAt job n end bound t ≡ leb (s .desk .minute + 2147483648) end =
+          ap (endsBy job (lowered end) t) (k .0) ∙ (ap (λ (x : ℕ). leZ (pos x) (lowered end)) m ∙ end-raised (s .desk .minute) end) in
+          rw h (sym in-time)
       step false h = rw h (sym (ap (endsBy job (lowered end) t) (g .over (leb-false (s .desk .worst) bound h))))
 
   pub not-in-time : (t : ℕ) (s : Standing) (order : List ℕ) → Searched job n t bound s order → (b : Bool) →
@@ -76,16 +79,19 @@ module _ (job : ℕ → Job) (limits : Limits job) (n end bound : ℕ) where
       within false h x = false-is-true (sym (ap (λ (c : Bool). c && leb (s .desk .minute + 2147483648) end) h) ∙ x)
 
   -- # The halving
-  pub between-first : (desk : Desk) (best : List ℕ) → Reached job n end bound 0 desk best → Between job n end bound 0 latestMinute desk best
+  pub between-first : (desk : Desk) (best : List ℕ) → Reached job n end bound 0 desk best →
+      Between job n end bound 0 latestMinute desk best
   between-first desk best r =
       record { ordered = omega arith; high-within = omega arith; low-reached = r; above = λ l. absurd (omega arith) }
 
-  pub between-later : (low high middle : ℕ) (desk desk′ : Desk) (best best′ : List ℕ) → Between job n end bound low high desk best → middle ≤ high →
-      Reached job n end bound middle desk′ best′ → Between job n end bound middle high desk′ best′
+  pub between-later : (low high middle : ℕ) (desk desk′ : Desk) (best best′ : List ℕ) →
+      Between job n end bound low high desk best → middle ≤ high → Reached job n end bound middle desk′ best′ →
+      Between job n end bound middle high desk′ best′
   between-later low high middle desk desk′ best best′ b l r =
       record { ordered = l; high-within = b .high-within; low-reached = r; above = b .above }
 
-  pub between-sooner : (low high middle : ℕ) (desk : Desk) (best : List ℕ) → Between job n end bound low high desk best → low < middle → middle ≤ high →
+  pub between-sooner : (low high middle : ℕ) (desk : Desk) (best : List ℕ) →
+      Between job n end bound low high desk best → low < middle → middle ≤ high →
       inTimeAt job n end bound middle ≡ false → Between job n end bound low (middle - 1) desk best
   between-sooner low high middle desk best b g l f =
       let e : suc (middle - 1) ≡ middle = omega arith in

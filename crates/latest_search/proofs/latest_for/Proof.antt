@@ -9,7 +9,9 @@ use Rattle.latest_search.proofs.latest_for.Statement.{statement}
 use Rattle.latest_search.proofs.latest_for.Tie as tie
 
 tables-requires : tie.Need-tables-requires
-tables-requires c κs = let p = c .before .before .before .before .before .before .pre in (p .0, (p .1 .1, refl, refl, refl, refl, refl))
+tables-requires c κs =
+    let p = c .before .before .before .before .before .before .pre in
+    (p .0, (p .1 .1, refl, refl, refl, refl, refl))
 
 halve-requires : tie.Need-halve-requires
 halve-requires c κs =
@@ -20,27 +22,37 @@ halve-requires c κs =
 returns : tie.Need-returns
 returns c =
     let p = c .before .before .before .before .before .before .before .before .before .before .before .before .before .pre in
-    start-never (c .before .before .before .before .before .before .tables .ensures) (p .0) _ _ (p .1 .0) (p .1 .1) (p .1 .2) _ _ (c .before .halve .ensures) (not-true _ (c .if1 .taken))
+    let q = p .1 in
+    let t = c .before .before .before .before .before .before .tables .ensures in
+    start-never t (p .0) _ _ (q .0) (q .1) (q .2) _ _ (c .before .halve .ensures) (not-true _ (c .if1 .taken))
 
 write-order-requires : tie.Need-write-order-requires
 write-order-requires c κs =
-    let p = c .before .before .before .before .before .before .before .before .before .before .before .before .before .before .before .before .before .pre in
+    let p = c .before .before .before .before .before .before .before .before .before .before .before .before .before .before
+    .before .before .before .pre in
+    let q = p .1 in
+    let out = c .before .before .before .before .before .before .before .before .before .before .before .before .before .before
+    .before .before .before .args .out .now in
     let t = c .before .before .before .before .before .before .before .before .before .before .tables .ensures in
-    let out = c .before .before .before .before .before .before .before .before .before .before .before .before .before .before .before .before .before .args .out .now in
-    let f = not-false _ (c .before .before .before .before .if1 .left) in (
-      p .1 .1,
-      p .1 .3,
-      order-long t (p .0) _ _ (p .1 .0) (p .1 .1) (p .1 .2) out _ (c .before .before .before .before .before .halve .ensures) f,
-      order-high t (p .0) _ _ (p .1 .0) (p .1 .1) (p .1 .2) out _ (c .before .before .before .before .before .halve .ensures) f,
-    )
+    let h = c .before .before .before .before .before .halve .ensures in
+    let f = not-false _ (c .before .before .before .before .if1 .left) in
+    let long = order-long t (p .0) _ _ (q .0) (q .1) (q .2) out _ h f in
+    let high = order-high t (p .0) _ _ (q .0) (q .1) (q .2) out _ h f in
+    (q .1, q .3, long, high)
 
 same-length : tie.Need-same-length
 same-length c = search needs
 
 returns-2 : tie.Need-returns-2
 returns-2 c =
-    let p = c .before .before .before .before .before .before .before .before .before .before .before .before .before .before .before .before .before .before .before .before .pre in
-    start-found (c .before .before .before .before .before .before .before .before .before .before .before .before .before .tables .ensures) (p .0) _ _ (p .1 .0) (p .1 .1) (p .1 .2) _ _ (c .before .before .before .before .before .before .before .before .halve .ensures) (not-false _ (c .before .before .before .before .before .before .before .if1 .left)) _ (c .before .before .write-order .ensures)
+    let p = c .before .before .before .before .before .before .before .before .before .before .before .before .before .before
+    .before .before .before .before .before .before .pre in
+    let q = p .1 in
+    let t = c .before .before .before .before .before .before .before .before .before .before .before .before .before .tables .ensures in
+    let h = c .before .before .before .before .before .before .before .before .halve .ensures in
+    let f = not-false _ (c .before .before .before .before .before .before .before .if1 .left) in
+    let w = c .before .before .write-order .ensures in
+    start-found t (p .0) _ _ (q .0) (q .1) (q .2) _ _ h f _ w
 
 pub latest-for-spec : {M : Type 1} → statement M
 latest-for-spec =
