@@ -3,10 +3,12 @@ ghost use mathlib.Core.Path.{_≡_};
 ghost use Rattle.calls.specs.Answers.{saidNo, saidList, saidOrder, saidVerdict, saidPlace};
 ghost use Rattle.open_desk.specs.Answers.{saidOpen, saidStart, saidPace};
 ghost use Rattle.several.specs.Answers.{saidSeveral};
+ghost use Rattle.latest_free.specs.Answers.{saidLatest};
 ghost use Rattle.answers.specs.Boundary.{answerOf, answerOfDesks};
 use desk_open::OpenAnswer;
 use desk_pace::PaceAnswer;
 use desk_start::StartAnswer;
+use latest_free::LatestAnswer;
 use outcomes::ListAnswer;
 use outcomes::OrderAnswer;
 use outcomes::VerdictAnswer;
@@ -15,7 +17,7 @@ use several::SeveralAnswer;
 
 // What every call answers: the refusal's number, 0 for none, and its place, or the place of a row's number word; the count of plans, the
 // first plan that beats a posting, 0 for none, or the rows of an opened desk; end and worst lateness, or the worst lateness so far of an
-// open desk; an open desk's minute; of several desks the one that a refusal concerns, 0 for none, and the sum of the overtimes. A field
+// open desk; an open desk's minute, or the latest free minute; of several desks the one that a refusal concerns, 0 for none, and the sum of the overtimes. A field
 // that a case does not speak of is 0.
 #[repr(C)]
 pub struct Answer {
@@ -204,5 +206,23 @@ pub fn of_several(answer: SeveralAnswer) -> Answer
             desk: desk,
             overtime: 0,
         },
+    }
+}
+
+pub fn of_latest(answer: LatestAnswer) -> Answer
+    ensures { λ r. ⌜ r ≡ answerOf (saidLatest answer) ⌝ }
+{
+    match answer {
+        LatestAnswer::From(minute, end, late) => Answer {
+            place: 0,
+            count: 0,
+            refusal: 0,
+            end: end,
+            late: late,
+            minute: minute,
+            desk: 0,
+            overtime: 0,
+        },
+        LatestAnswer::Refused(number, place) => refused(number, place),
     }
 }

@@ -12,6 +12,8 @@ ghost use Rattle.desk_pace.specs.Paces.{paceCall};
 ghost use Rattle.desk_plans.specs.Plans.{deskListCall, deskPlanCall};
 ghost use Rattle.open_desk.specs.Answers.{saidOpen, saidStart, saidPace};
 ghost use Rattle.readers.specs.Reads.{orderingRule, firstCome};
+ghost use Rattle.latest_free.specs.Answers.{saidLatest};
+ghost use Rattle.latest_free.specs.Calls.{latestCall};
 ghost use Rattle.several.specs.Answers.{saidSeveral};
 ghost use Rattle.several.specs.Calls.{severalCall};
 ghost use Rattle.answers.specs.Boundary.{answerOf, answerOfDesks};
@@ -198,4 +200,19 @@ pub extern "C" fn jelvaksna_several(
         severalCall opening (now (books .entry)) (now (lengths .entry)) (now (closings .entry)) limit (now (result .entry)) .buffer ⌝ }
 {
     answers::of_several(several::several(opening, books, lengths, closings, limit, result))
+}
+
+// How late the desk can open: the latest free minute at which some order keeps the wanted end and lateness, with the order and its pair.
+#[no_mangle]
+pub extern "C" fn jelvaksna_latest_free(
+    opening: u32,
+    book: &[u32],
+    end: i32,
+    late: i32,
+    result: &mut [u32],
+) -> Answer
+    ensures { λ r. ⌜ r ≡ answerOf (saidLatest (latestCall opening (now (book .entry)) end late (now (result .entry)) .answer)) ⌝ }
+    ensures { λ _. ⌜ now (result .exit) ≡ latestCall opening (now (book .entry)) end late (now (result .entry)) .buffer ⌝ }
+{
+    answers::of_latest(latest_free::latest_free(opening, book, end, late, result))
 }

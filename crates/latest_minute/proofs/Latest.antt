@@ -3,7 +3,7 @@ use Prim.Native.Nat.{ℕ, suc, _≤_, _<_}
 use native.Mathlib.Omega.{arith}
 use native.Mathlib.Decide.{decLe}
 use mathlib.Core.Bool.{Bool, true, false, _||_}
-use mathlib.Core.Path.{_≡_, refl, sym, _∙_, subst}
+use mathlib.Core.Path.{_≡_, refl, sym, ap, _∙_, subst}
 use mathlib.Core.List.{List, [], _∷_, List·Memᴰ, List·Memᴰ·head, List·Memᴰ·tail, List·Memᴰ·not-nil, List·Memᴰ·cases-cons}
 use mathlib.Core.Logic.{_⊎_, inl, inr, _↔_}
 use mathlib.Core.Option.{Option, none, some, Option·some-injective, Option·none-ne-some}
@@ -22,7 +22,7 @@ use Rattle.schedule.proofs.Tests.{both, parts, or-cases, or-left, or-right, is-
 use Rattle.schedule.proofs.Best.{order-pair, pair-order}
 use Rattle.schedule.proofs.LaterStart.{later-start}
 use Rattle.schedule.proofs.Cover.{tried, whole, signed, promised}
-use Rattle.latest_minute.specs.Latest.{meets, someMeets, Start, allowed, latestFree, latestStart}
+use Rattle.latest_minute.specs.Latest.{meets, someMeets, Start, startAt, startBy, allowed, latestFree, latestStart}
 use Rattle.latest_minute.specs.Latest.{Allowed, LatestFree}
 use Rattle.latest_minute.specs.Laws.{endsBy, inTime, LatestMinute}
 use Rattle.latest_minute.proofs.Greatest.{Greatest, greatest-found, greatest-is, greatest-none, zero-fails}
@@ -115,6 +115,14 @@ module _ (job : ℕ → Job) (left : List ℕ) (end late : ℤ) where
     λ h. greatest-none (allowed job left end late) latestMinute (λ s l p. h (earlier 0 s (omega arith) (allowed-some s p))),
   )
 
+  -- # A start by the latest free minute
+  start-none : latestFree job left end late ≡ none → latestStart job left end late ≡ none
+  start-none e = ap (startBy (λ t. orderFor job t left late)) e
+
+  start-some : (t : ℕ) → latestFree job left end late ≡ some t → (order : List ℕ) → orderFor job t left late ≡ some order →
+      latestStart job left end late ≡ some (record { minute = t; order = order })
+  start-some t e order g = ap (startBy (λ t. orderFor job t left late)) e ∙ ap (startAt t) g
+
   -- # Rows that agree: the order for the wanted lateness decides a minute, since it ends soonest of those that keep it
   module _ (agreeing : Agreeing job left) (some-row : 0 < length left) where
     abbrev test : ℕ → Bool
@@ -167,15 +175,6 @@ module _ (job : ℕ → Job) (left : List ℕ) (end late : ℤ) where
         step : (o : Option (List ℕ)) → orderFor job t left late ≡ o → (order : List ℕ) × (o ≡ some order)
         step none e = absurd (three t .unkept late .0 e (a .0) (a .1 .whole) (a .1 .lates))
         step (some order) e = (order, refl)
-
-    start-none : latestFree job left end late ≡ none → latestStart job left end late ≡ none
-    unfolding latestStart
-    start-none e = rw (e, latestStart)
-
-    start-some : (t : ℕ) → latestFree job left end late ≡ some t → (order : List ℕ) → orderFor job t left late ≡ some order →
-        latestStart job left end late ≡ some (record { minute = t; order = order })
-    unfolding latestStart
-    start-some t e order g = rw (e, g, latestStart)
 
     start : (s : Start) → (latestStart job left end late ≡ some s) ↔
         (LatestFree job left end late (s .minute) × (orderFor job (s .minute) left late ≡ some (s .order)))

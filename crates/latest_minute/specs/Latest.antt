@@ -36,6 +36,11 @@ abbrev pub startAt : ℕ → Option (List ℕ) → Option Start
 startAt t none = none
 startAt t (some order) = some (record { minute = t; order = order })
 
+-- The start at a minute, if there is one, with the order that is taken from there.
+abbrev pub startBy : (orders : ℕ → Option (List ℕ)) → Option ℕ → Option Start
+startBy orders none = none
+startBy orders (some t) = startAt t (orders t)
+
 module _ (job : ℕ → Job) (left : List ℕ) (end late : ℤ) where
   -- Some order of the rows keeps both from the minute t on.
   unfoldable pub allowed : ℕ → Bool
@@ -46,11 +51,8 @@ module _ (job : ℕ → Job) (left : List ℕ) (end late : ℤ) where
   latestFree = greatest allowed latestMinute
 
   -- With the order for the wanted lateness from there.
-  unfoldable pub latestStart : Option Start
-  latestStart = elim latestFree [
-    | none ↦ none
-    | some t ↦ startAt t (orderFor job t left late)
-  ]
+  abbrev pub latestStart : Option Start
+  latestStart = startBy (λ t. orderFor job t left late) latestFree
 
   -- The same, said of orders: an order of the rows keeps both from the minute t on; some order does.
   pub record KeepsBoth (t : ℕ) (order : List ℕ) : Type 0 where

@@ -65,3 +65,7 @@ byEarly = 15
 -- 16, overtime: no orders of the desks keep the overtime limit.
 abbrev pub byOvertime : ℕ
 byOvertime = 16
+
+-- 17, unreachable: not even free minute 0 allows the wanted end and lateness.
+abbrev pub byUnreachable : ℕ
+byUnreachable = 17

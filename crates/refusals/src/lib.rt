@@ -41,6 +41,8 @@ impl Tested {
     pub const EARLY: u32 = 15;
 
     pub const OVERTIME: u32 = 16;
+
+    pub const UNREACHABLE: u32 = 17;
 }
 
 // One test: where it is true, the refusal.

@@ -10,9 +10,8 @@ use lib.ListN.{length}
 use Rattle.schedule.specs.Limits.{mostRows}
 use Rattle.schedule.specs.Columns.{columns}
 use Rattle.latest_search.specs.Halvings.{halvings}
-use Rattle.latest_search.proofs.Found.{not-in-time, reached-at, Between, between-first, between-later, between-sooner,
-halved-found}
-use Rattle.latest_search.proofs.Found.{halved-never, middle-between, upper-half, lower-half}
+use Rattle.latest_search.proofs.Found.{not-in-time, reached-at, Between, between-first, between-later, between-sooner}
+use Rattle.latest_search.proofs.Found.{halved-found, halved-never, middle-between, upper-half, lower-half}
 use Rattle.latest_search.proofs.halve.Statement.{statement}
 use Rattle.latest_search.proofs.halve.Tie as tie
 
