@@ -103,7 +103,7 @@ abbrev pub line : ℕ → ℤ → List ℕ → Line
 line e y ns = record { end = e; late = y; numbers = ns }
 
 -- Two functions that give one list over a list agree at each of its elements.
-agree : {A B : Type 0} (f g : A → B) {l : List A} → map f l ≡ map g l → {a : A} → List·Memᴰ a l → f a ≡ g a
+pub agree : {A B : Type 0} (f g : A → B) {l : List A} → map f l ≡ map g l → {a : A} → List·Memᴰ a l → f a ≡ g a
 agree f g e (List·Memᴰ·head p) = ap f p ∙ head-eq-of-cons-eq e ∙ ap g (sym p)
 agree f g e (List·Memᴰ·tail m) = agree f g (tail-eq-of-cons-eq e) m
 

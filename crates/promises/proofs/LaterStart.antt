@@ -49,10 +49,10 @@ module _ (terms : Terms) (free later : ℕ) (rest : List ℕ) (f : free ≤ late
       Accepts (terms .profile) (bookFrom later rest) (dayOf later (day .rows))
   accepts-too day a = record { tells = tells-too day (a .tells); no-clash = a .no-clash }
 
-  takes-too : (day : Day) → Takes terms (bookFrom free rest) day → Takes terms (bookFrom later rest) (dayOf later (day .rows))
+  pub takes-too : (day : Day) → Takes terms (bookFrom free rest) day → Takes terms (bookFrom later rest) (dayOf later (day .rows))
   takes-too day t = record { opening = t .opening; accepts = accepts-too day (t .accepts) }
 
-  refused-too : (n p : ℕ) → BookRefused (terms .profile) (bookFrom free rest) n p →
+  pub refused-too : (n p : ℕ) → BookRefused (terms .profile) (bookFrom free rest) n p →
       BookRefused (terms .profile) (bookFrom later rest) n p
   refused-too _ _ (by-word n p w) = by-word n p (free-word free later rest f l .wrong n p .0 w)
   refused-too _ _ (disorder e day t k c) = disorder e (dayOf later (day .rows)) (tells-too day t) k c
