@@ -17,8 +17,8 @@ use several::SeveralAnswer;
 
 // What every call answers: the refusal's number, 0 for none, and its place, or the place of a row's number word; the count of plans, the
 // first plan that beats a posting, 0 for none, or the rows of an opened desk; end and worst lateness, or the worst lateness so far of an
-// open desk; an open desk's minute, or the latest free minute; of several desks the one that a refusal concerns, 0 for none, and the sum of the overtimes. A field
-// that a case does not speak of is 0.
+// open desk; an open desk's minute, or the latest free minute; of several desks the one that a refusal concerns, 0 for none, and the sum of
+// the overtimes. A field that a case does not speak of is 0.
 #[repr(C)]
 pub struct Answer {
     pub place: usize,
@@ -213,13 +213,13 @@ pub fn of_latest(answer: LatestAnswer) -> Answer
     ensures { λ r. ⌜ r ≡ answerOf (saidLatest answer) ⌝ }
 {
     match answer {
-        LatestAnswer::From(minute, end, late) => Answer {
+        LatestAnswer::From(free, end, late) => Answer {
             place: 0,
             count: 0,
             refusal: 0,
             end: end,
             late: late,
-            minute: minute,
+            minute: free,
             desk: 0,
             overtime: 0,
         },

@@ -1,7 +1,7 @@
 // The latest free minute from which some order keeps a wanted end and a wanted lateness, of rows in plain columns by the ordering rule.
 // Rows are numbered from 1, so columns have 257 places; 0 stands for no row. Latenesses, bounds and the wanted end are raised by 2^31.
 // The working tables are made once a call. The minute is found by halving, with one search for the order for the bound at each minute
-// that is tried: at most 25 of them.
+// that is tried: at most 25.
 ghost use mathlib.Core.Path.{_≡_};
 ghost use mathlib.Core.Bool.{_&&_};
 ghost use Prim.Native.Nat.{_+_, _≤_};
