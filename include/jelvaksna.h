@@ -44,7 +44,7 @@
  * numbers of the kind 3 words.
  *
  * OPENING. The software takes some minutes to open each transcript, the same for
- * all: `opening`, from 0 to 30, is the first argument of the ten calls that
+ * all: `opening`, from 0 to 30, is the first argument of the eleven calls that
  * work out ends or open a desk. A row ends at its start plus opening plus length.
  * Length is the reading time alone: spare and the due of a class do not count
  * opening, nor does the test which rows disagree. Outside 0 to 30 such a call is
@@ -69,14 +69,15 @@
  *
  * FIRST COME, FIRST DUE is a profile for books where a transcript released
  * earlier is never due later. It is chosen by calling it: each call, but those
- * of the open desk and that of several desks, has another of its name with
- * first_come_ put in. Two rows cross if one has the smaller release and also
- * the larger due; the profile accepts rows in any order, as long as no two of
- * them cross, and whether they disagree does not matter. Its list is one plan,
- * with the rows by release, then due, then row: no order of the rows ends
- * sooner, and none has a smaller worst lateness. A book may be accepted by the
- * profile, by the other calls, by both or by neither. Where both accept it they
- * list the same plan, though its order may differ.
+ * of the open desk, that of several desks and that of the latest free minute,
+ * has another of its name with first_come_ put in. Two rows cross if one has
+ * the smaller release and also the larger due; the profile accepts rows in any
+ * order, as long as no two of them cross, and whether they disagree does not
+ * matter. Its list is one plan, with the rows by release, then due, then row:
+ * no order of the rows ends sooner, and none has a smaller worst lateness. A
+ * book may be accepted by the profile, by the other calls, by both or by
+ * neither. Where both accept it they list the same plan, though its order may
+ * differ.
  *
  * THE OPEN DESK is a run of JELVAKSNA_DESK_WORDS words or more that is filled
  * from a book when it is opened. It holds the rows with the pages of each,
@@ -141,8 +142,29 @@
  *
  * From 2.0 or 2.1: compile again, and change nothing else. The struct that
  * every call returns has two fields more at its end, 0 in every other call than
- * this one, so a caller that was compiled with an earlier header must not be
- * linked with this version.
+ * this one, so a caller that was compiled with their header must not be linked
+ * with this version.
+ *
+ * HOW LATE CAN THE DESK OPEN. An order keeps a wanted end and a wanted worst
+ * lateness if its own are at most these. The answer is the latest free minute,
+ * from 0 to 10,000,000, from which some order keeps both. A later free minute
+ * never helps: of the minutes of that range those up to the answer allow it,
+ * and no other does. If not even free minute 0 allows it the call is refused
+ * UNREACHABLE. The wanted numbers may be any; a negative end is never reached.
+ *
+ * The order given is that for the wanted lateness as a bound, from the minute
+ * answered: the one that jelvaksna_order_for_bound gives, with its pair, of the
+ * same book with that free minute. So it ends no later than any order that is
+ * at most that late from there. A desk that would stand idle before a release
+ * can open later at no cost: many free minutes may give one end and lateness,
+ * and the last of them is answered.
+ *
+ * The book's own free word is read and tested as in any call, and not used:
+ * books that differ in it alone, in range in both, have one answer and order.
+ * No two rows may disagree. The profile has no such call.
+ *
+ * From 2.2: change nothing, and there is no need to compile again. This call is
+ * all that is new; the struct is as it was.
  *
  * WHAT IS LENT. Pointers are aligned for uint32_t, their lengths count words,
  * and all those words can be read; those of `result`, and of the desk in a
@@ -163,8 +185,8 @@
  * too. The words of the book are tested from the first on, at one word in the
  * sequence CUT, KIND, FULL, RANGE, TWICE, COUNT. Then come TAIL, DISORDER (in
  * the profile CROSSED), and of several desks the next book. Then come
- * NOT_POSTING, UNLISTED, DONE, EARLY, NARROW, UNKEPT, OVERTIME. The first
- * condition met is the one that is told.
+ * NOT_POSTING, UNLISTED, DONE, EARLY, NARROW, UNKEPT (of the latest free minute
+ * UNREACHABLE), OVERTIME. The first condition met is the one that is told.
  */
 #ifndef JELVAKSNA_H
 #define JELVAKSNA_H
@@ -172,7 +194,7 @@
 #include <stddef.h>
 #include <stdint.h>
 
-#define JELVAKSNA_VERSION "2.2"
+#define JELVAKSNA_VERSION "2.3"
 
 /* The refusals, and the place that comes with each. */
 #define JELVAKSNA_CUT 1          /* the book stops where a word is due: its length */
@@ -191,9 +213,11 @@
 #define JELVAKSNA_DONE 14        /* the row was started before: the row */
 #define JELVAKSNA_EARLY 15       /* before the desk's minute or the release, or past 20,000,000: 0 */
 #define JELVAKSNA_OVERTIME 16    /* no orders of the desks keep the limit: 0 */
+#define JELVAKSNA_UNREACHABLE 17 /* no free minute lets an order keep the wanted end and lateness: 0 */
 
 /* Limits. */
 #define JELVAKSNA_MAX_OPENING 30       /* opening minutes */
+#define JELVAKSNA_MAX_FREE 10000000    /* free minute of a desk */
 #define JELVAKSNA_MIN_PACE 4           /* pages an hour, at least */
 #define JELVAKSNA_MAX_PACE 120         /* pages an hour, at most */
 #define JELVAKSNA_MAX_ROWS 256         /* words that any order fits in */
@@ -215,10 +239,10 @@ extern "C" {
 typedef struct jelvaksna_answer {
     size_t place;      /* place of a refusal, or of a row's number word */
     size_t count;      /* count of plans or of a desk's rows, or the first plan that beats a posting */
-    uint32_t refusal;  /* 0, or the refusal's number, 1 to 16; 8 never in the profile, 13 only there */
+    uint32_t refusal;  /* 0, or the refusal's number, 1 to 17; 8 never in the profile, 13 only there */
     uint32_t end;      /* end of the order or the posting */
     int32_t late;      /* its worst lateness; after a start, the worst so far; of several desks, the least */
-    uint32_t minute;   /* the desk's minute */
+    uint32_t minute;   /* the desk's minute, or the latest free minute */
     uint32_t desk;     /* the desk that a refusal concerns, from 1; 0 where none */
     uint32_t overtime; /* the sum of the overtimes */
 } jelvaksna_answer;
@@ -367,6 +391,20 @@ jelvaksna_answer jelvaksna_several(uint32_t opening,
                                    const uint32_t *closings, size_t closings_len,
                                    uint32_t limit,
                                    uint32_t *result, size_t result_len);
+
+/* The call of the latest free minute.
+ *
+ * How late the desk can open: the latest free minute from which some order ends
+ * by `wanted_end` and is at most `wanted_late` late, both of which may be
+ * negative. `result` has one word for each row or more and takes the row
+ * numbers of the order for `wanted_late` as a bound from that minute on.
+ * Answers `minute`, 0 to 10,000,000, and `end` and `late`, the order's own.
+ * Refused: 1 to 8, NARROW, UNREACHABLE: exactly if not even free minute 0
+ * allows it. */
+jelvaksna_answer jelvaksna_latest_free(uint32_t opening,
+                                       const uint32_t *book, size_t book_len,
+                                       int32_t wanted_end, int32_t wanted_late,
+                                       uint32_t *result, size_t result_len);
 
 #ifdef __cplusplus
 }

@@ -269,6 +269,62 @@ static int several(uint32_t opening, const uint32_t *sound, size_t n, size_t row
     return 0;
 }
 
+/* The call of the latest free minute with so many opening minutes on the first n
+ * words of a sound book of so many rows: for the pair of each plan from minute 0,
+ * for what is always reached, and for what never is. */
+static int latest(uint32_t opening, const uint32_t *sound, size_t n, size_t rows, int at_end) {
+    const size_t whole = 4 * rows + 3;
+    uint32_t *book = fenced(sound, n, at_end, PROT_READ);
+    uint32_t *list = fenced(NULL, 2 * rows, at_end, PROT_READ | PROT_WRITE);
+    uint32_t *order = fenced(NULL, rows, at_end, PROT_READ | PROT_WRITE);
+    if (book == NULL || list == NULL || order == NULL)
+        return 1;
+    const uint32_t want = n < whole ? JELVAKSNA_CUT : 0;
+    const size_t cut = n < whole ? n : 0;
+
+    jelvaksna_answer a = jelvaksna_latest_free(opening, book, n, INT32_MAX, INT32_MAX, order, rows);
+    if (a.refusal != want || a.place != cut || a.minute != (want != 0 ? 0 : JELVAKSNA_MAX_FREE))
+        return bad("latest free minute of all", n);
+    const size_t plans = jelvaksna_list(opening, book, n, list, 2 * rows).count;
+    for (size_t plan = 0; plan < plans; plan++) {
+        const int32_t end = (int32_t)list[2 * plan], late = (int32_t)list[2 * plan + 1];
+        a = jelvaksna_latest_free(opening, book, n, end, late, order, rows);
+        if (a.refusal != 0 || (int32_t)a.end > end || a.late > late)
+            return bad("latest free minute", n);
+        uint32_t then[JELVAKSNA_MAX_BOOK_WORDS];
+        memcpy(then, sound, n * sizeof *sound);
+        then[0] = JELVAKSNA_WORD(1, a.minute);
+        const jelvaksna_answer posted = jelvaksna_verdict(opening, then, n, order, rows);
+        if (posted.refusal != 0 || posted.end != a.end || posted.late != a.late)
+            return bad("pair from the latest free minute", n);
+    }
+    a = jelvaksna_latest_free(opening, book, n, -1, INT32_MAX, order, rows);
+    if (a.refusal != (want != 0 ? want : JELVAKSNA_UNREACHABLE) || a.place != cut)
+        return bad("end that is not reached", n);
+    a = jelvaksna_latest_free(opening, book, n, INT32_MAX, INT32_MIN, order, rows);
+    if (a.refusal != (want != 0 ? want : JELVAKSNA_UNREACHABLE) || a.place != cut)
+        return bad("lateness that is not reached", n);
+    a = jelvaksna_latest_free(opening, book, n, -1, INT32_MIN, order + at_end, rows - 1);
+    if (a.refusal != (want != 0 ? want : JELVAKSNA_NARROW) || a.place != cut)
+        return bad("result for the latest free minute", n);
+
+    /* Empty runs at addresses that cannot be touched. */
+    uint32_t *dead = at_end ? order + rows : order - 1;
+    if (want == 0 && jelvaksna_latest_free(opening, book, n, 0, 0, dead, 0).refusal != JELVAKSNA_NARROW)
+        return bad("no result for the latest free minute", n);
+    a = jelvaksna_latest_free(opening, dead, 0, 0, 0, dead, 0);
+    if (a.refusal != JELVAKSNA_CUT || a.place != 0)
+        return bad("latest free minute of no book", n);
+    a = jelvaksna_latest_free(UINT32_MAX, dead, 0, 0, 0, dead, 0);
+    if (a.refusal != JELVAKSNA_RANGE || a.place != 0)
+        return bad("latest free minute, opening minutes", n);
+
+    unfence(book, n, at_end);
+    unfence(list, 2 * rows, at_end);
+    unfence(order, rows, at_end);
+    return 0;
+}
+
 int main(void) {
     uint32_t book[JELVAKSNA_MAX_BOOK_WORDS];
     for (int at_end = 0; at_end < 2; at_end++) {
@@ -279,6 +335,8 @@ int main(void) {
                 if (calls(&standard, opening, book, n, rows, at_end) != 0)
                     return 1;
                 if (several(opening, book, n, rows, at_end) != 0)
+                    return 1;
+                if (latest(opening, book, n, rows, at_end) != 0)
                     return 1;
             }
             make(book, rows, 0);

@@ -4,20 +4,25 @@
 //! - [`model`]: a second implementation of document 01 with requests L1 to L3, L5 and L7, from these alone.
 //! - [`desk_model`]: a second open desk of requests L6 and L8, upon that model.
 //! - [`several_model`]: a second choice for several desks under one overtime limit, upon that model.
+//! - [`latest_model`]: a second search for the latest free minute, upon that model.
 //! - [`books`]: a seeded maker of books, sound and damaged.
 
 pub mod books;
 pub mod desk_model;
+pub mod latest_model;
 #[cfg(feature = "archive")]
 pub mod linked;
 pub mod model;
 pub mod several_model;
 
 /// The version of the boundary, as in `include/jelvaksna.h`.
-pub const VERSION: &str = "2.2";
+pub const VERSION: &str = "2.3";
 
 /// The most opening minutes.
 pub const MAX_OPENING: u32 = 30;
+
+/// The latest free minute of a desk.
+pub const MAX_FREE: u32 = 10_000_000;
 
 /// The least and the most pages an hour.
 pub const MIN_PACE: u32 = 4;
@@ -49,6 +54,7 @@ pub mod refusal {
     pub const DONE: u32 = 14;
     pub const EARLY: u32 = 15;
     pub const OVERTIME: u32 = 16;
+    pub const UNREACHABLE: u32 = 17;
 }
 
 /// Which books are accepted, and which plans are listed of them.
@@ -107,6 +113,15 @@ pub struct Moved {
 pub struct Chosen {
     pub late: i32,
     pub overtime: u32,
+}
+
+/// How late the desk can open: the latest free minute, and the end and the worst lateness of the order from
+/// there.
+#[derive(Clone, Copy, Debug, PartialEq, Eq)]
+pub struct Latest {
+    pub minute: u32,
+    pub end: u32,
+    pub late: i32,
 }
 
 /// The word of a kind with a value.

@@ -2,7 +2,7 @@
 //!
 //! `opening` is always the minutes that each row takes to open, from 0 to [`crate::MAX_OPENING`].
 
-use crate::{Chosen, Moved, Opened, Pair, Refusal, RefusalAtDesk};
+use crate::{Chosen, Latest, Moved, Opened, Pair, Refusal, RefusalAtDesk};
 
 /// What every call answers. Fields that a case does not speak of are 0.
 #[repr(C)]
@@ -136,6 +136,15 @@ pub mod raw {
             closings: *const u32,
             closings_len: usize,
             limit: u32,
+            result: *mut u32,
+            result_len: usize,
+        ) -> Answer;
+        pub fn jelvaksna_latest_free(
+            opening: u32,
+            book: *const u32,
+            book_len: usize,
+            wanted_end: i32,
+            wanted_late: i32,
             result: *mut u32,
             result_len: usize,
         ) -> Answer;
@@ -474,3 +483,54 @@ pub mod several {
         })
     }
 }
+
+/// The call for the latest free minute.
+pub mod latest {
+    use super::{told, Latest, Refusal};
+
+    /// The call on slices, with the answer as it comes.
+    pub mod plain {
+        use crate::linked::{raw, Answer};
+
+        pub fn latest_free(
+            opening: u32,
+            book: &[u32],
+            wanted_end: i32,
+            wanted_late: i32,
+            result: &mut [u32],
+        ) -> Answer {
+            // SAFETY: both slices are live and aligned for the call, and `result` is lent alone.
+            unsafe {
+                raw::jelvaksna_latest_free(
+                    opening,
+                    book.as_ptr(),
+                    book.len(),
+                    wanted_end,
+                    wanted_late,
+                    result.as_mut_ptr(),
+                    result.len(),
+                )
+            }
+        }
+    }
+
+    /// Writes the order for the wanted lateness from the latest free minute at which some order keeps both
+    /// the wanted end and the wanted lateness, one row number a word, and gives that minute and the order's
+    /// pair. The book's own free minute is not used.
+    pub fn latest_free(
+        opening: u32,
+        book: &[u32],
+        wanted_end: i32,
+        wanted_late: i32,
+        result: &mut [u32],
+    ) -> Result<Latest, Refusal> {
+        let answer = plain::latest_free(opening, book, wanted_end, wanted_late, result);
+        told(answer, |a| Latest {
+            minute: a.minute,
+            end: a.end,
+            late: a.late,
+        })
+    }
+}
+
+pub use latest::latest_free;

@@ -2,8 +2,8 @@
 //! source of the exported functions says.
 
 use jelvaksna::{
-    refusal, DESK_WORDS, MAX_CLOSING, MAX_DESKS, MAX_LIMIT, MAX_OPENING, MAX_PACE, MIN_PACE,
-    VERSION,
+    refusal, DESK_WORDS, MAX_CLOSING, MAX_DESKS, MAX_FREE, MAX_LIMIT, MAX_OPENING, MAX_PACE,
+    MIN_PACE, VERSION,
 };
 use std::collections::BTreeSet;
 use std::fs::read_to_string;
@@ -96,17 +96,18 @@ fn prototypes() {
     let declared = declared.split_once("extern \"C\" {").unwrap().1;
     let declared = declared.split_once('}').unwrap().0;
     let header = header_functions();
-    assert_eq!(header.len(), 16);
+    assert_eq!(header.len(), 17);
     assert_eq!(header, of_source(declared, "pub fn "));
 }
 
-/// For every call but those of the open desk and of several desks there is one of the profile, with the same
-/// parameters.
+/// For every call but those of the open desk, of several desks and of the latest free minute there is one of
+/// the profile, with the same parameters.
 #[test]
 fn profile() {
+    let without = ["jelvaksna_several", "jelvaksna_latest_free"];
     let (of_profile, calls): (Vec<_>, Vec<_>) = header_functions()
         .into_iter()
-        .filter(|f| !f.0.starts_with("jelvaksna_desk_") && f.0 != "jelvaksna_several")
+        .filter(|f| !f.0.starts_with("jelvaksna_desk_") && !without.contains(&f.0.as_str()))
         .partition(|f| f.0.starts_with("jelvaksna_first_come_"));
     let renamed = of_profile
         .into_iter()
@@ -178,6 +179,7 @@ fn constants() {
         ("DONE", refusal::DONE),
         ("EARLY", refusal::EARLY),
         ("OVERTIME", refusal::OVERTIME),
+        ("UNREACHABLE", refusal::UNREACHABLE),
     ];
     for (i, (name, number)) in numbers.into_iter().enumerate() {
         assert_eq!(number, i as u32 + 1);
@@ -185,6 +187,7 @@ fn constants() {
     }
     assert!(header.contains(&format!("number, 1 to {};", numbers.len())));
     assert_eq!(value("MAX_OPENING"), MAX_OPENING.to_string());
+    assert_eq!(value("MAX_FREE"), MAX_FREE.to_string());
     assert_eq!(value("MIN_PACE"), MIN_PACE.to_string());
     assert_eq!(value("MAX_PACE"), MAX_PACE.to_string());
     let rows = jelvaksna::model::MAX_ROWS;
@@ -206,7 +209,7 @@ fn opening() {
     let header = header_functions();
     let opening = ("opening".to_string(), "u32".to_string());
     let told: Vec<_> = header.iter().filter(|f| f.1[0] == opening).collect();
-    assert_eq!(told.len(), 10);
+    assert_eq!(told.len(), 11);
     let on_a_desk = |name: &str| name.starts_with("jelvaksna_desk_") && !name.ends_with("_open");
     for (name, params, _) in &header {
         let none = name.ends_with("_row_place") || on_a_desk(name);

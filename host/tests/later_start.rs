@@ -6,18 +6,11 @@
 
 mod common;
 
-use common::{fail, fault, Case, PROFILES};
+use common::{fail, fault, with_free, Case, PROFILES};
 use jelvaksna::books::{self, Draft, Rng};
 use jelvaksna::desk_model::Desk;
 use jelvaksna::linked::desk;
-use jelvaksna::{refusal, word, Pair, Refusal, DESK_WORDS};
-
-const LATEST_MINUTE: u32 = 10_000_000;
-
-/// The book with another free word.
-fn with_free(book: &[u32], free: u32) -> Vec<u32> {
-    [&[word(1, free)], &book[1..]].concat()
-}
+use jelvaksna::{refusal, Pair, Refusal, DESK_WORDS, MAX_FREE};
 
 /// The plans that the archive lists from a free minute.
 fn plans(case: Case, book: &[u32], free: u32) -> Result<Vec<Pair>, Refusal> {
@@ -99,7 +92,7 @@ impl Seen {
 /// Free minutes that tell: both ends of their range, the day's own, releases and dues and what lies beside
 /// them, ends of the plans, and minutes by chance, near and far.
 fn free_minutes(rng: &mut Rng, draft: &Draft, plans: &[Pair]) -> Vec<u32> {
-    let mut minutes = vec![0, i64::from(LATEST_MINUTE), draft.free];
+    let mut minutes = vec![0, i64::from(MAX_FREE), draft.free];
     for _ in 0..4 {
         let row = draft.rows[rng.below(draft.rows.len())];
         let beside = rng.range(-2, 2);
@@ -108,8 +101,8 @@ fn free_minutes(rng: &mut Rng, draft: &Draft, plans: &[Pair]) -> Vec<u32> {
         minutes.push(i64::from(plan.end) - rng.range(0, 40));
         minutes.push(draft.free + (1 << rng.below(12)));
     }
-    minutes.push(rng.range(0, LATEST_MINUTE.into()));
-    minutes.retain(|minute| (0..=LATEST_MINUTE.into()).contains(minute));
+    minutes.push(rng.range(0, MAX_FREE.into()));
+    minutes.retain(|minute| (0..=MAX_FREE.into()).contains(minute));
     minutes.sort_unstable();
     minutes.dedup();
     minutes.into_iter().map(|minute| minute as u32).collect()
@@ -183,15 +176,15 @@ fn accepted_or_refused_alike() {
             continue;
         }
         let refusal = plans(case, &book, 0).err();
-        let any = rng.range(0, LATEST_MINUTE.into()) as u32;
-        for free in [1, 60, any, LATEST_MINUTE - 1, LATEST_MINUTE] {
+        let any = rng.range(0, MAX_FREE.into()) as u32;
+        for free in [1, 60, any, MAX_FREE - 1, MAX_FREE] {
             let other = plans(case, &book, free).err();
             if other != refusal {
                 let what = format!("  from 0 {refusal:?}\n  from {free} {other:?}");
                 fail(case, &book, &free, &what);
             }
         }
-        for free in [LATEST_MINUTE + 1, LATEST_MINUTE + 2, (1 << 29) - 1] {
+        for free in [MAX_FREE + 1, MAX_FREE + 2, (1 << 29) - 1] {
             let (number, place) = (refusal::RANGE, 0);
             assert_eq!(plans(case, &book, free), Err(Refusal { number, place }));
         }

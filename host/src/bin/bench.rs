@@ -5,10 +5,12 @@
 //! Prints tables for docs/BENCHMARKS.md. It asserts equal answers, and nothing about times.
 
 use jelvaksna::books::{self, Draft, Rng};
+use jelvaksna::latest_model::{self, from_minute, Wanted};
 use jelvaksna::model::{self, Day, MAX_ROWS};
+use jelvaksna::refusal::UNREACHABLE;
 use jelvaksna::several_model::Bureau;
-use jelvaksna::{linked, linked::desk, linked::several};
-use jelvaksna::{Pair, Profile, DESK_WORDS, MAX_DESKS, MAX_PACE, MIN_PACE};
+use jelvaksna::{linked, linked::desk, linked::several, word};
+use jelvaksna::{Latest, Pair, Profile, DESK_WORDS, MAX_DESKS, MAX_FREE, MAX_PACE, MIN_PACE};
 use std::hint::black_box;
 use std::time::{Duration, Instant};
 
@@ -252,6 +254,43 @@ fn several_desks(name: &str, days: &[Draft]) {
     );
 }
 
+/// The call for the latest free minute, beside one order for the wanted lateness, from the minute answered.
+/// Wanted are the numbers of the book's middle plan, each an hour later; then an end that is a minute too soon
+/// for any order, which is refused.
+fn latest_minute(name: &str, day: &Draft) {
+    let (book, rows) = (day.words(), day.rows.len());
+    let read = Day::read(OPENING, &book).expect("an accepted day");
+    let plans = read.list().len();
+    let Pair { end, late } = read.list()[plans / 2];
+    let soonest = from_minute(&read, 0).order_for_bound(i32::MAX);
+    let soonest = soonest.expect("an order").0.end as i32;
+    for wanted in [
+        Wanted::new(end as i32 + 60, late + 60),
+        Wanted::new(soonest - 1, i32::MAX),
+    ] {
+        let (mut a, mut b) = ([0; MAX_ROWS], [0; MAX_ROWS]);
+        let Wanted { end, late } = wanted;
+        let told = linked::latest_free(OPENING, &book, end, late, &mut a);
+        let model = latest_model::latest_free(OPENING, &book, wanted, &mut b);
+        assert_eq!((told, a), (model, b));
+        let (minute, answer) = match told {
+            Ok(Latest { minute, .. }) => (minute, format!("{minute}")),
+            Err(refusal) => (0, format!("refused {}", refusal.number)),
+        };
+        let inside = minute > 0 && minute < MAX_FREE;
+        assert!(inside || told.is_err_and(|refusal| refusal.number == UNREACHABLE));
+        let from_there = [&[word(1, minute)], &book[1..]].concat();
+        let (call, order) = time(
+            || linked::latest_free(OPENING, black_box(&book), end, late, &mut a).is_ok(),
+            || linked::order_for_bound(OPENING, black_box(&from_there), late, &mut b).is_ok(),
+        );
+        println!(
+            "| {name} | {rows} | {plans} | {answer} | {call:.2} | {order:.2} | {:.1} |",
+            call / order
+        );
+    }
+}
+
 fn main() {
     let seed = books::seed();
     println!("Microseconds a call, median of {RUNS} runs, seed {seed:#x}. Below 1 in the last column: the archive is faster.\n");
@@ -327,6 +366,14 @@ fn main() {
                 }
             };
             several_desks(name, &(0..MAX_DESKS).map(day).collect::<Vec<_>>());
+        }
+    }
+    println!("\nHow late the desk can open, beside one order for a bound:\n");
+    println!("| day | rows | plans | latest free minute | call µs | order µs | call / order |");
+    println!("|---|---:|---:|---:|---:|---:|---:|");
+    for (name, make) in days {
+        for rows in DESKS {
+            latest_minute(name, &make(rows));
         }
     }
     println!("\nHow the archive's time grows with the rows (and the model's):\n");

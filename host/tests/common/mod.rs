@@ -9,7 +9,7 @@ pub mod layout;
 use jelvaksna::books::{self, Draft, Rng, OPENINGS};
 use jelvaksna::linked::{self, first_come::plain as first_come, plain as standard, Answer};
 use jelvaksna::model::{self, Day};
-use jelvaksna::{Pair, Profile, Refusal, MAX_OPENING};
+use jelvaksna::{word, Pair, Profile, Refusal, MAX_OPENING};
 
 /// One call on a book that is lent beside it. `len` is the length of the result buffer.
 #[derive(Clone, Debug)]
@@ -222,6 +222,11 @@ impl Case {
     pub fn rng(&self) -> Rng {
         Rng::for_case(self.seed, self.test, self.case)
     }
+}
+
+/// The book with another free word.
+pub fn with_free(book: &[u32], free: u32) -> Vec<u32> {
+    [&[word(1, free)], &book[1..]].concat()
 }
 
 /// The book as kinds and values.
