@@ -28,15 +28,15 @@ use Rattle.readers.proofs.Readings.{given-passed}
 use Rattle.outcomes.specs.Planning.{gives}
 use Rattle.outcomes.specs.Plannable.{Plannable}
 use Rattle.calls.proofs.Ready.{same, plannable}
-use Rattle.latest_minute.specs.Latest.{Start, latestStart}
-use Rattle.latest_minute.proofs.Latest.{latest-minute}
-use Rattle.latest_minute.proofs.SameJobs.{start-same}
+use Rattle.how_late.specs.Latest.{OrderFrom, latestOrder}
+use Rattle.how_late.proofs.Latest.{how-late}
+use Rattle.how_late.proofs.SameJobs.{order-same}
 use Rattle.latest_search.specs.declared.Latest.{Latest}
 use Rattle.latest_search.specs.declared.Latest.the-variants.{At, Never}
-use Rattle.latest_search.specs.Found.{latestOf, orderOf, StartGiven}
+use Rattle.latest_search.specs.Found.{latestOf, orderOf, LatestGiven}
 use Rattle.latest_free.specs.declared.LatestAnswer.{LatestAnswer}
 use Rattle.latest_free.specs.declared.LatestAnswer.the-variants as latest-answer
-use Rattle.latest_free.specs.Calls.{startOutcome, latestOutcome, latestCall}
+use Rattle.latest_free.specs.Calls.{fromOutcome, latestOutcome, latestCall}
 use Rattle.latest_free.proofs.Outcomes.{latest-narrow, latest-is, call-of}
 
 -- What is answered once the latest free minute is found.
@@ -45,51 +45,51 @@ answerOf (At t e y) = latest-answer.From t e (lowered y)
 answerOf Never = latest-answer.Refused 17 0
 
 module _ {job : ℕ → Job} {n : ℕ} (p : Plannable Ordering job latestMinute n) (end late : ℤ) (b : List ℕ) where
-  abbrev start : Option Start
-  start = latestStart job (countFrom 1 n) end late
+  abbrev answer : Option OrderFrom
+  answer = latestOrder job (countFrom 1 n) end late
 
   some-row : 0 < length (countFrom 1 n)
   some-row = omega (arith, length-count 1 n, p .low)
 
-  -- The order of the latest start is one of the rows.
-  whole : (s : Start) → start ≡ some s → OrderOf (countFrom 1 n) (s .order)
+  -- The order from the latest free minute is one of the rows.
+  whole : (s : OrderFrom) → answer ≡ some s → OrderOf (countFrom 1 n) (s .order)
   whole s e =
-      let o = latest-minute job (countFrom 1 n) end late .1 (p .rule) some-row .start s .0 e .1 in
+      let o = how-late job (countFrom 1 n) end late .1 (p .rule) some-row .order-from s .0 e .1 in
       promised job (s .minute) (countFrom 1 n) (p .rule) some-row .best late (s .order) o .0
 
   pub answer-narrow : length b < n → gives (latest-answer.Refused 9 0) b ≡ latestOutcome job (countFrom 1 n) end late b
   answer-narrow h = sym (latest-narrow job (countFrom 1 n) end late b (omega (arith, length-count 1 n)))
 
-  answer-found : n ≤ length b → (r : Latest) (after : List ℕ) → StartGiven job start b r after →
+  answer-found : n ≤ length b → (r : Latest) (after : List ℕ) → LatestGiven job answer b r after →
       gives (answerOf r) after ≡ latestOutcome job (countFrom 1 n) end late b
-  unfolding latestOf orderOf writtenOf startOutcome written
-  answer-found wide r after g = step start refl ∙ sym (latest-is job (countFrom 1 n) end late b (omega (arith, length-count 1 n)))
+  unfolding latestOf orderOf writtenOf fromOutcome written
+  answer-found wide r after g = step answer refl ∙ sym (latest-is job (countFrom 1 n) end late b (omega (arith, length-count 1 n)))
     where
-      -- What is given, of a start that is known.
-      known : (x : Option Start) → start ≡ x → gives (answerOf r) after ≡ gives (answerOf (latestOf job x)) (writtenOf (orderOf x) b)
+      -- What is given, of a minute and order that are known.
+      known : (x : Option OrderFrom) → answer ≡ x → gives (answerOf r) after ≡ gives (answerOf (latestOf job x)) (writtenOf (orderOf x) b)
       known x e = λ i.
           gives (answerOf ((g .answered ∙ ap (latestOf job) e) i))
-          ((g .buffer ∙ ap (λ (o : Option Start). writtenOf (orderOf o) b) e) i)
+          ((g .buffer ∙ ap (λ (o : Option OrderFrom). writtenOf (orderOf o) b) e) i)
 
       -- The lateness of the order comes back from what it is raised to.
-      lowers : (s : Start) → start ≡ some s →
+      lowers : (s : OrderFrom) → answer ≡ some s →
           lowered (raised (pairOf job (s .minute) (s .order) .late)) ≡ pairOf job (s .minute) (s .order) .late
       lowers s e =
           late-lowers job (p .limits) (s .minute) (s .order)
           (omega (arith, perm-count (whole s e) .0, length-count 1 n, p .low))
 
-      step : (x : Option Start) → start ≡ x → gives (answerOf r) after ≡ startOutcome job start b
-      step none e = known none e ∙ ap (λ (o : Option Start). startOutcome job o b) (sym e)
+      step : (x : Option OrderFrom) → answer ≡ x → gives (answerOf r) after ≡ fromOutcome job answer b
+      step none e = known none e ∙ ap (λ (o : Option OrderFrom). fromOutcome job o b) (sym e)
       step (some s) e =
           known (some s) e ∙
           (ap (λ (y : ℤ). gives (latest-answer.From (s .minute) (endOf job (s .minute) (s .order)) y) (written (s .order) b))
-          (lowers s e) ∙ ap (λ (o : Option Start). startOutcome job o b) (sym e))
+          (lowers s e) ∙ ap (λ (o : Option OrderFrom). fromOutcome job o b) (sym e))
 
-  pub answer-never : n ≤ length b → (r : Latest) (after : List ℕ) → StartGiven job start b r after → r ≡ Never →
+  pub answer-never : n ≤ length b → (r : Latest) (after : List ℕ) → LatestGiven job answer b r after → r ≡ Never →
       gives (latest-answer.Refused 17 0) after ≡ latestOutcome job (countFrom 1 n) end late b
   answer-never wide r after g e = ap (λ (x : Latest). gives (answerOf x) after) (sym e) ∙ answer-found wide r after g
 
-  pub answer-from : n ≤ length b → (r : Latest) (after : List ℕ) → StartGiven job start b r after → (t e y : ℕ) → r ≡ At t e y → (z : ℤ) →
+  pub answer-from : n ≤ length b → (r : Latest) (after : List ℕ) → LatestGiven job answer b r after → (t e y : ℕ) → r ≡ At t e y → (z : ℤ) →
       z ≡ lowered y → gives (latest-answer.From t e z) after ≡ latestOutcome job (countFrom 1 n) end late b
   answer-from wide r after g t e y is z lower =
       ap (λ (z : ℤ). gives (latest-answer.From t e z) after) lower ∙
@@ -97,10 +97,10 @@ module _ {job : ℕ → Job} {n : ℕ} (p : Plannable Ordering job latestMinute 
 
   -- Jobs that are the same on the rows.
   module _ (job′ : ℕ → Job) (alike : (i : ℕ) → List·Memᴰ i (countFrom 1 n) → job i ≡ job′ i) where
-    start-alike : (x : Option Start) → start ≡ x → startOutcome job x b ≡ startOutcome job′ x b
-    unfolding startOutcome
-    start-alike none e = refl
-    start-alike (some s) e =
+    from-alike : (x : Option OrderFrom) → answer ≡ x → fromOutcome job x b ≡ fromOutcome job′ x b
+    unfolding fromOutcome
+    from-alike none e = refl
+    from-alike (some s) e =
         ap (λ (q : Pair). gives (latest-answer.From (s .minute) (q .end) (q .late)) (written (s .order) b))
         (same-pair job job′ (s .minute) (s .order) (perm-all (λ i. job i ≡ job′ i) (whole s e) alike))
 
@@ -111,8 +111,8 @@ module _ {job : ℕ → Job} {n : ℕ} (p : Plannable Ordering job latestMinute 
             latestOutcome job (countFrom 1 n) end late b ≡ latestOutcome job′ (countFrom 1 n) end late b
         step (yes h) =
             latest-is job (countFrom 1 n) end late b h ∙
-            (start-alike start refl ∙
-            (ap (λ (o : Option Start). startOutcome job′ o b) (start-same n end late job job′ alike) ∙
+            (from-alike answer refl ∙
+            (ap (λ (o : Option OrderFrom). fromOutcome job′ o b) (order-same n end late job job′ alike) ∙
             sym (latest-is job′ (countFrom 1 n) end late b h)))
         step (no h) =
             latest-narrow job (countFrom 1 n) end late b (omega arith) ∙

@@ -10,16 +10,16 @@ use Rattle.schedule.specs.Rows.{Day, jobs, rowNumbers}
 use Rattle.book.specs.Rows.{refused, accepted}
 use Rattle.readers.specs.Reads.{orderingRule, readBy}
 use Rattle.outcomes.specs.Planning.{gives}
-use Rattle.latest_minute.specs.Latest.{latestStart}
+use Rattle.how_late.specs.Latest.{latestOrder}
 use Rattle.latest_free.specs.declared.LatestAnswer.the-variants as latest-answer
-use Rattle.latest_free.specs.Calls.{startOutcome, latestOutcome, latestCall}
+use Rattle.latest_free.specs.Calls.{fromOutcome, latestOutcome, latestCall}
 
 module _ (job : ℕ → Job) (left : List ℕ) (end late : ℤ) (b : List ℕ) where
   pub latest-narrow : length b < length left → latestOutcome job left end late b ≡ gives (latest-answer.Refused 9 0) b
   unfolding latestOutcome
   latest-narrow h = rw (lt-ltb (length b) (length left) h, latestOutcome)
 
-  pub latest-is : length left ≤ length b → latestOutcome job left end late b ≡ startOutcome job (latestStart job left end late) b
+  pub latest-is : length left ≤ length b → latestOutcome job left end late b ≡ fromOutcome job (latestOrder job left end late) b
   unfolding latestOutcome
   latest-is h = rw (le-ltb (length b) (length left) h, latestOutcome)
 

@@ -15,22 +15,22 @@ use Rattle.book.specs.Rows.{refused, accepted}
 use Rattle.readers.specs.Reads.{orderingRule, readBy}
 use Rattle.results.specs.Results.{written}
 use Rattle.outcomes.specs.Planning.{Outcome, gives}
-use Rattle.latest_minute.specs.Latest.{Start, latestStart}
+use Rattle.how_late.specs.Latest.{OrderFrom, latestOrder}
 use Rattle.latest_free.specs.declared.LatestAnswer.{LatestAnswer}
 use Rattle.latest_free.specs.declared.LatestAnswer.the-variants as latest-answer
 
--- What is given of a start: its minute, the pair that its order comes to from there, and the order; or that there is none.
-unfoldable pub startOutcome : (ℕ → Job) → Option Start → (buffer : List ℕ) → Outcome LatestAnswer
-startOutcome job none b = gives (latest-answer.Refused byUnreachable 0) b
-startOutcome job (some s) b =
+-- What is given of a minute with an order: the minute, the pair that the order comes to from there, and the order; or that there is none.
+unfoldable pub fromOutcome : (ℕ → Job) → Option OrderFrom → (buffer : List ℕ) → Outcome LatestAnswer
+fromOutcome job none b = gives (latest-answer.Refused byUnreachable 0) b
+fromOutcome job (some s) b =
     let pair = pairOf job (s .minute) (s .order) in
     gives (latest-answer.From (s .minute) (pair .end) (pair .late)) (written (s .order) b)
 
--- One word for each row; then the latest start.
+-- One word for each row; then the latest free minute with its order.
 unfoldable pub latestOutcome : (ℕ → Job) → (left : List ℕ) → (end late : ℤ) → (buffer : List ℕ) → Outcome LatestAnswer
 latestOutcome job left end late b = elim (ltb (length b) (length left)) [
   | true ↦ gives (latest-answer.Refused byNarrow 0) b
-  | false ↦ startOutcome job (latestStart job left end late) b
+  | false ↦ fromOutcome job (latestOrder job left end late) b
 ]
 
 -- The offered call: the refusal of the opening or the book, or what the rows of its day come to. (Its free minute is not used.)

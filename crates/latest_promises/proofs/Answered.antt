@@ -23,11 +23,11 @@ use Rattle.results.specs.Results.{written}
 use Rattle.outcomes.specs.Planning.{Outcome, gives}
 use Rattle.calls.specs.Answers.{Said, saidNo}
 use Rattle.promises.specs.Vocabulary.{told}
-use Rattle.latest_minute.specs.Latest.{Start, latestStart}
-use Rattle.latest_minute.specs.Laws.{LatestLaws}
-use Rattle.latest_minute.proofs.Latest.{latest-minute}
+use Rattle.how_late.specs.Latest.{OrderFrom, latestOrder}
+use Rattle.how_late.specs.Laws.{LatestLaws}
+use Rattle.how_late.proofs.Latest.{how-late}
 use Rattle.latest_free.specs.Answers.{saidFrom, saidLatest}
-use Rattle.latest_free.specs.Calls.{startOutcome}
+use Rattle.latest_free.specs.Calls.{fromOutcome}
 use Rattle.latest_free.proofs.Outcomes.{latest-narrow, latest-is, call-of}
 use Rattle.latest_promises.specs.Promise.{latest, LatestWith, Answered, from, unreachable}
 
@@ -52,7 +52,7 @@ module _ (opening : ℕ) (book : List ℕ) (end late : ℤ) (b : List ℕ) (day 
     some-row = omega (arith, rows-length, a .some-row)
 
     pub laws : LatestLaws job rows end late
-    laws = latest-minute job rows end late .1 (a .rule) some-row
+    laws = how-late job rows end late .1 (a .rule) some-row
 
     three : (t : ℕ) → PlansPromise job t rows (orderFor job t rows)
     three t = promised job t rows (a .rule) some-row
@@ -63,23 +63,23 @@ module _ (opening : ℕ) (book : List ℕ) (end late : ℤ) (b : List ℕ) (day 
         latest-narrow job rows end late b (omega (arith, rows-length)))
 
     module _ (wide : length (day .rows) ≤ length b) where
-      start-says : (x : Option Start) → latestStart job rows end late ≡ x → o ≡ told saidLatest (startOutcome job x b)
-      start-says x e =
+      from-says : (x : Option OrderFrom) → latestOrder job rows end late ≡ x → o ≡ told saidLatest (fromOutcome job x b)
+      from-says x e =
           ap (told saidLatest) (call-of opening book end late b day reads ∙
-          (latest-is job rows end late b (omega (arith, rows-length)) ∙ ap (λ (x : Option Start). startOutcome job x b) e))
+          (latest-is job rows end late b (omega (arith, rows-length)) ∙ ap (λ (x : Option OrderFrom). fromOutcome job x b) e))
 
-      pub says-unreachable : latestStart job rows end late ≡ none → o ≡ gives (saidNo byUnreachable 0) b
-      unfolding startOutcome
-      says-unreachable e = start-says none e
+      pub says-unreachable : latestOrder job rows end late ≡ none → o ≡ gives (saidNo byUnreachable 0) b
+      unfolding fromOutcome
+      says-unreachable e = from-says none e
 
-      pub says-from : (s : Start) → latestStart job rows end late ≡ some s →
+      pub says-from : (s : OrderFrom) → latestOrder job rows end late ≡ some s →
           o ≡ gives (saidFrom (s .minute) (pairOf job (s .minute) (s .order))) (written (s .order) b)
-      unfolding startOutcome
-      says-from s e = start-says (some s) e
+      unfolding fromOutcome
+      says-from s e = from-says (some s) e
 
-      pub latest-with : (s : Start) → latestStart job rows end late ≡ some s → LatestWith opening day end late (s .minute) (s .order)
+      pub latest-with : (s : OrderFrom) → latestOrder job rows end late ≡ some s → LatestWith opening day end late (s .minute) (s .order)
       latest-with s e =
-          let l = laws .start s .0 e in
+          let l = laws .order-from s .0 e in
           let m = l .0 in
           let best = three (s .minute) .best late (s .order) (l .1) in
           let other = m .exactly (s .minute) (m .in-range) .1 (omega arith) in
@@ -99,8 +99,8 @@ module _ (opening : ℕ) (book : List ℕ) (end late : ℤ) (b : List ℕ) (day 
           }
 
       pub is-answered : Answered opening day end late b o
-      is-answered = step (latestStart job rows end late) refl
+      is-answered = step (latestOrder job rows end late) refl
         where
-          step : (x : Option Start) → latestStart job rows end late ≡ x → Answered opening day end late b o
-          step none e = unreachable (laws .no-start .0 e) (says-unreachable e)
+          step : (x : Option OrderFrom) → latestOrder job rows end late ≡ x → Answered opening day end late b o
+          step none e = unreachable (laws .no-order .0 e) (says-unreachable e)
           step (some s) e = from (s .minute) (s .order) (latest-with s e) (says-from s e)

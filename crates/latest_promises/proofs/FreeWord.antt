@@ -27,7 +27,7 @@ use Rattle.promises.specs.Table.{Turned, by-call}
 use Rattle.promises.proofs.Refused.{contents-turned}
 use Rattle.promises.proofs.Accepted.{takes, book-refused}
 use Rattle.promises.proofs.LaterStart.{takes-too, refused-too}
-use Rattle.latest_minute.specs.Latest.{Start, latestStart}
+use Rattle.how_late.specs.Latest.{OrderFrom, latestOrder}
 use Rattle.latest_free.specs.Answers.{saidLatest}
 use Rattle.latest_free.specs.Calls.{latestCall}
 use Rattle.latest_free.proofs.Outcomes.{call-refused, call-of}
@@ -70,13 +70,13 @@ free-unused opening free other f g rest end late b = ap (told saidLatest) (step 
 
 -- # A call that is not refused
 module _ (opening : ℕ) (book : List ℕ) (end late : ℤ) (b : List ℕ) (granted : latest opening book end late b .answer .number ≡ 0) where
-  -- It is that of a book that is accepted, into a buffer with a word for each row, and there is a latest start.
+  -- It is that of a book that is accepted, into a buffer with a word for each row, and there is a latest free minute.
   record Granted : Type 0 where
     day : Day
     reads : readBy (orderingRule opening) book ≡ accepted day
     wide : length (day .rows) ≤ length b
-    start : Start
-    is-start : latestStart (jobs opening day) (rowNumbers day) end late ≡ some start
+    from : OrderFrom
+    is-from : latestOrder (jobs opening day) (rowNumbers day) end late ≡ some from
 
   not-turned : (n p : ℕ) → Turned (orderingRule opening) book (λ day. LatestTurned opening day end late b) n p → Granted
   not-turned n p t = let r = exactly opening book end late b n p .1 t in absurd (omega (arith, r .0, r .1, granted))
@@ -85,14 +85,14 @@ module _ (opening : ℕ) (book : List ℕ) (end late : ℤ) (b : List ℕ) (gran
   is-granted = step (readBy (orderingRule opening) book) refl
     where
       search : (day : Day) → readBy (orderingRule opening) book ≡ accepted day → length (day .rows) ≤ length b →
-          (x : Option Start) → latestStart (jobs opening day) (rowNumbers day) end late ≡ x → Granted
+          (x : Option OrderFrom) → latestOrder (jobs opening day) (rowNumbers day) end late ≡ x → Granted
       search day e h none g =
           not-turned byUnreachable 0 (by-call byUnreachable 0 day (takes (orderingRule opening) book day .0 e)
-          (unreachable h (laws opening book end late b day e .no-start .0 g)))
-      search day e h (some s) g = record { day = day; reads = e; wide = h; start = s; is-start = g }
+          (unreachable h (laws opening book end late b day e .no-order .0 g)))
+      search day e h (some s) g = record { day = day; reads = e; wide = h; from = s; is-from = g }
 
       room : (day : Day) → readBy (orderingRule opening) book ≡ accepted day → Dec (length (day .rows) ≤ length b) → Granted
-      room day e (yes h) = search day e h (latestStart (jobs opening day) (rowNumbers day) end late) refl
+      room day e (yes h) = search day e h (latestOrder (jobs opening day) (rowNumbers day) end late) refl
       room day e (no h) =
           not-turned byNarrow 0 (by-call byNarrow 0 day (takes (orderingRule opening) book day .0 e) (narrow (omega arith)))
 
@@ -110,10 +110,10 @@ bound-from opening free rest end late b granted =
     let terms = orderingRule opening in
     let g = is-granted opening (bookFrom free rest) end late b granted in
     let day = g .day in
-    let s = g .start in
-    let l = laws opening (bookFrom free rest) end late b day (g .reads) .start s .0 (g .is-start) in
+    let s = g .from in
+    let l = laws opening (bookFrom free rest) end late b day (g .reads) .order-from s .0 (g .is-from) in
     let own = own-minute free rest day (takes terms (bookFrom free rest) day .0 (g .reads) .accepts .tells) .1 in
-    let o = says-from opening (bookFrom free rest) end late b day (g .reads) (g .wide) s (g .is-start) in
+    let o = says-from opening (bookFrom free rest) end late b day (g .reads) (g .wide) s (g .is-from) in
     let reads = accepted-too terms free (s .minute) rest own (l .0 .in-range) day (g .reads) in
     let wide : length (rowNumbers day) ≤ length b =
     omega (arith, g .wide, rows-length opening (bookFrom free rest) end late b day (g .reads)) in

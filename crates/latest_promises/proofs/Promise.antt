@@ -20,7 +20,7 @@ use Rattle.promises.specs.Table.{Turned, by-opening, by-book, by-call}
 use Rattle.promises.proofs.Accepted.{takes}
 use Rattle.promises.proofs.Numbers.{ordering-numbered}
 use Rattle.promises.proofs.Memory.{Kept, kept-no, kept-yes}
-use Rattle.latest_minute.specs.Latest.{Start, latestStart}
+use Rattle.how_late.specs.Latest.{OrderFrom, latestOrder}
 use Rattle.latest_free.specs.Answers.{saidFrom, saidLatest}
 use Rattle.latest_free.proofs.Outcomes.{call-refused}
 use Rattle.latest_promises.specs.Promise.{latest, LatestTurned, narrow, unreachable, LatestPromise}
@@ -41,10 +41,10 @@ module _ (opening : ℕ) (book : List ℕ) (end late : ℤ) (b : List ℕ) where
   is : {x : Outcome Said} → latest opening book end late b ≡ x → Kept b x → Kept b (latest opening book end late b)
   is e k = subst (Kept b) (sym e) k
 
-  of-start : (day : Day) (reads : readBy (orderingRule opening) book ≡ accepted day) → length (day .rows) ≤ length b →
-      (x : Option Start) → latestStart (jobs opening day) (rowNumbers day) end late ≡ x → Kept b (latest opening book end late b)
-  of-start day reads wide none e = is (says-unreachable opening book end late b day reads wide e) kept-no
-  of-start day reads wide (some s) e =
+  of-order : (day : Day) (reads : readBy (orderingRule opening) book ≡ accepted day) → length (day .rows) ≤ length b →
+      (x : Option OrderFrom) → latestOrder (jobs opening day) (rowNumbers day) end late ≡ x → Kept b (latest opening book end late b)
+  of-order day reads wide none e = is (says-unreachable opening book end late b day reads wide e) kept-no
+  of-order day reads wide (some s) e =
       let k = latest-with opening book end late b day reads wide s e .keeps in
       is (says-from opening book end late b day reads wide s e)
       (kept-yes (saidFrom (s .minute) (pairOf (jobs opening day) (s .minute) (s .order))) (s .order) b refl
@@ -52,7 +52,7 @@ module _ (opening : ℕ) (book : List ℕ) (end late : ℤ) (b : List ℕ) where
 
   of-day : (day : Day) (reads : readBy (orderingRule opening) book ≡ accepted day) → Dec (length (day .rows) ≤ length b) →
       Kept b (latest opening book end late b)
-  of-day day reads (yes h) = of-start day reads h (latestStart (jobs opening day) (rowNumbers day) end late) refl
+  of-day day reads (yes h) = of-order day reads h (latestOrder (jobs opening day) (rowNumbers day) end late) refl
   of-day day reads (no h) = is (says-narrow opening book end late b day reads (omega arith)) kept-no
 
   kept : Kept b (latest opening book end late b)

@@ -17,7 +17,7 @@ use Rattle.calls.specs.Answers.{Said}
 use Rattle.promises.specs.Vocabulary.{told, Refuses}
 use Rattle.promises.specs.Table.{Turned}
 use Rattle.promises.proofs.Refused.{says-no, says-yes, turned}
-use Rattle.latest_minute.specs.Latest.{Start, latestStart}
+use Rattle.how_late.specs.Latest.{OrderFrom, latestOrder}
 use Rattle.latest_free.specs.Answers.{saidLatest}
 use Rattle.latest_free.proofs.Outcomes.{call-refused}
 use Rattle.latest_promises.specs.Promise.{latest, LatestTurned, narrow, unreachable}
@@ -43,25 +43,25 @@ module _ (opening : ℕ) (book : List ℕ) (end late : ℤ) (b : List ℕ) where
       one-unreachable h _ _ (narrow l) = let z : ⊥ = omega arith in absurd z
       one-unreachable h _ _ (unreachable wide none-allowed) = (refl, refl)
 
-      not-turned : length (day .rows) ≤ length b → (s : Start) → latestStart (jobs opening day) (rowNumbers day) end late ≡ some s →
+      not-turned : length (day .rows) ≤ length b → (s : OrderFrom) → latestOrder (jobs opening day) (rowNumbers day) end late ≡ some s →
           (n p : ℕ) → ¬ Turns n p
       not-turned h s e _ _ (narrow l) = omega arith
       not-turned h s e _ _ (unreachable wide none-allowed) =
-          let m = laws opening book end late b day reads .start s .0 e .0 in
+          let m = laws opening book end late b day reads .order-from s .0 e .0 in
           none-allowed (m .exactly 0 (omega arith) .1 (omega arith))
 
-      search : length (day .rows) ≤ length b → (x : Option Start) → latestStart (jobs opening day) (rowNumbers day) end late ≡ x →
+      search : length (day .rows) ≤ length b → (x : Option OrderFrom) → latestOrder (jobs opening day) (rowNumbers day) end late ≡ x →
           (n p : ℕ) → Refuses said n p ↔ Turns n p
       search h none e =
           says-no said Turns byUnreachable 0 (omega arith)
           (ap (λ (o : Outcome Said). o .answer) (says-unreachable opening book end late b day reads h e))
-          (unreachable h (laws opening book end late b day reads .no-start .0 e)) (one-unreachable h)
+          (unreachable h (laws opening book end late b day reads .no-order .0 e)) (one-unreachable h)
       search h (some s) e =
           says-yes said Turns (ap (λ (o : Outcome Said). o .answer .number) (says-from opening book end late b day reads h s e))
           (not-turned h s e)
 
       room : Dec (length (day .rows) ≤ length b) → (n p : ℕ) → Refuses said n p ↔ Turns n p
-      room (yes h) = search h (latestStart (jobs opening day) (rowNumbers day) end late) refl
+      room (yes h) = search h (latestOrder (jobs opening day) (rowNumbers day) end late) refl
       room (no h) =
           says-no said Turns byNarrow 0 (omega arith)
           (ap (λ (o : Outcome Said). o .answer) (says-narrow opening book end late b day reads (omega arith))) (narrow (omega arith))

@@ -21,9 +21,9 @@ use Rattle.outcomes.specs.Planning.{Outcome, gives}
 use Rattle.calls.specs.Answers.{Said, saidNo}
 use Rattle.calls.specs.Days.{agree}
 use Rattle.promises.specs.Vocabulary.{told}
-use Rattle.latest_minute.specs.Latest.{Start}
-use Rattle.latest_minute.specs.Laws.{inTime}
-use Rattle.latest_minute.proofs.Latest.{latest-minute}
+use Rattle.how_late.specs.Latest.{OrderFrom}
+use Rattle.how_late.specs.Laws.{inTime}
+use Rattle.how_late.proofs.Latest.{how-late}
 use Rattle.latest_free.specs.Answers.{saidFrom, saidLatest}
 use Rattle.latest_free.proofs.Outcomes.{call-refused}
 use Rattle.latest_promises.specs.Promise.{latest}
@@ -78,9 +78,9 @@ module _ (opening : ℕ) (end late : ℤ) (b : List ℕ) (t : ℕ) where
           let timed = both-parts (test t) _ (early .1) in
           let free = k .next t (leb-true t latestMinute (early .0)) (timed .0)
           (λ h. not-true (test (suc t)) (either (leb latestMinute t) _ (timed .1) (lt-leb latestMinute t h))) in
-          let start : Start = record { minute = t; order = order } in
-          let is-start = k .start start .1 (latest-minute (jobs opening day) (rowNumbers day) end late .0 .found t .0 free, e) in
-          says-from opening book end late b day reads wide start is-start ∙ Option·some-injective _ told s
+          let it : OrderFrom = record { minute = t; order = order } in
+          let is-it = k .order-from it .1 (how-late (jobs opening day) (rowNumbers day) end late .0 .found t .0 free, e) in
+          says-from opening book end late b day reads wide it is-it ∙ Option·some-injective _ told s
 
       by-tests : length (day .rows) ≤ length b → (x y : Bool) → last day ≡ x →
           inTime (jobs opening day) (rowNumbers day) end late 0 ≡ y → (told : Outcome Said) → byTests day x y ≡ some told → o ≡ told
@@ -89,8 +89,8 @@ module _ (opening : ℕ) (end late : ℤ) (b : List ℕ) (t : ℕ) where
       by-tests wide false false l z told s =
           let k = laws opening book end late b day reads in
           let free = k .never z in
-          let no-start = k .no-start .1 (latest-minute (jobs opening day) (rowNumbers day) end late .0 .unreachable .0 free) in
-          says-unreachable opening book end late b day reads wide no-start ∙ Option·some-injective _ told s
+          let no-order = k .no-order .1 (how-late (jobs opening day) (rowNumbers day) end late .0 .unreachable .0 free) in
+          says-unreachable opening book end late b day reads wide no-order ∙ Option·some-injective _ told s
 
       by-room : (x : Bool) → ltb (length b) (length (day .rows)) ≡ x → (told : Outcome Said) → byRoom day x ≡ some told → o ≡ told
       by-room true e told s =

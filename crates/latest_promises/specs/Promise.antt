@@ -1,6 +1,6 @@
 -- How late the desk can open: what is promised of the call, for every opening, book, wanted end, wanted lateness and buffer. The proof is
 -- `latest-free-holds`, in proofs/Promise.antt. That the function does what is said here of its call is its contract (latest_free/src).
--- Rests on: the latest free minute (latest_minute), the table of a book's refusals and what it is to take a book (promises).
+-- Rests on: the latest free minute (how_late), the table of a book's refusals and what it is to take a book (promises).
 use Prim.Native.Nat.{ℕ, _≤_, _<_}
 use mathlib.Core.Path.{_≡_}
 use mathlib.Core.List.{List}
@@ -23,7 +23,7 @@ use Rattle.calls.specs.Answers.{Said, saidNo}
 use Rattle.promises.specs.Vocabulary.{told, bound, saidPair, Refuses, Takes}
 use Rattle.promises.specs.Table.{Turned}
 use Rattle.promises.specs.Promise.{Lent}
-use Rattle.latest_minute.specs.Latest.{KeepsBoth, Allowed, LatestFree}
+use Rattle.how_late.specs.Latest.{KeepsBoth, Allowed, LatestFree}
 use Rattle.latest_free.specs.Answers.{saidFrom, saidLatest}
 use Rattle.latest_free.specs.Calls.{latestCall}
 

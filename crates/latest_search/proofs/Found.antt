@@ -21,7 +21,7 @@ use Rattle.schedule.proofs.Raised.{lowered-le}
 use Rattle.picks.specs.declared.Standing.{Standing}
 use Rattle.search.specs.Searched.{Searched}
 use Rattle.search.proofs.Signs.{followed-end}
-use Rattle.latest_minute.specs.Laws.{endsBy}
+use Rattle.how_late.specs.Laws.{endsBy}
 use Rattle.latest_search.specs.declared.Halving.{Halving}
 use Rattle.latest_search.specs.Found.{inTimeAt, Reached, Halved}
 use Rattle.latest_search.specs.Halvings.{halvings}

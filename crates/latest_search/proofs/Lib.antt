@@ -1,3 +1,3 @@
 pub mod Halvings
 pub mod Found
-pub mod Starts
+pub mod Given

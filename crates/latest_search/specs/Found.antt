@@ -1,4 +1,4 @@
--- What the halving of the minutes finds, and what is given of a start, of rows in columns. Latenesses, bounds and the wanted end are raised
+-- What the halving of the minutes finds, and what is given of the latest free minute with its order, of rows in columns. Latenesses, bounds and the wanted end are raised
 -- by 2³¹. Rests on: the latest free minute, the search for the order for a bound, the words of a result buffer.
 use Prim.Native.Nat.{ℕ, suc, _≤_, _<_}
 use mathlib.Core.Bool.{Bool, true, false}
@@ -14,8 +14,8 @@ use Rattle.schedule.specs.Offset.{raised, lowered}
 use Rattle.picks.specs.declared.Standing.{Standing}
 use Rattle.search.specs.Searched.{Searched}
 use Rattle.arrival.specs.Given.{writtenOf}
-use Rattle.latest_minute.specs.Latest.{Start}
-use Rattle.latest_minute.specs.Laws.{inTime}
+use Rattle.how_late.specs.Latest.{OrderFrom}
+use Rattle.how_late.specs.Laws.{inTime}
 use Rattle.latest_search.specs.declared.Latest.{Latest}
 use Rattle.latest_search.specs.declared.Latest.the-variants.{At, Never}
 use Rattle.latest_search.specs.declared.Halving.{Halving}
@@ -40,16 +40,16 @@ module _ (job : ℕ → Job) (n end bound : ℕ) where
     pub reached : r .found ≡ true → Reached (r .minute) (r .desk) (r .order)
     pub next : r .found ≡ true → r .minute < latestMinute → inTimeAt (suc (r .minute)) ≡ false
 
--- What is answered of a start, and the buffer b with its order written to its front.
-unfoldable pub latestOf : (ℕ → Job) → Option Start → Latest
+-- What is answered of a minute with an order, and the order that is written.
+unfoldable pub latestOf : (ℕ → Job) → Option OrderFrom → Latest
 latestOf job none = Never
 latestOf job (some s) = At (s .minute) (endOf job (s .minute) (s .order)) (raised (pairOf job (s .minute) (s .order) .late))
 
-unfoldable pub orderOf : Option Start → Option (List ℕ)
+unfoldable pub orderOf : Option OrderFrom → Option (List ℕ)
 orderOf none = none
 orderOf (some s) = some (s .order)
 
--- The whole outcome of the search for the latest start.
-pub record StartGiven (job : ℕ → Job) (o : Option Start) (b : List ℕ) (answer : Latest) (after : List ℕ) : Type 0 where
+-- The whole outcome of the search for the latest free minute.
+pub record LatestGiven (job : ℕ → Job) (o : Option OrderFrom) (b : List ℕ) (answer : Latest) (after : List ℕ) : Type 0 where
   pub answered : answer ≡ latestOf job o
   pub buffer : after ≡ writtenOf (orderOf o) b

@@ -13,8 +13,8 @@ ghost use Rattle.schedule.specs.Cover.{Agreeing};
 ghost use Rattle.schedule.specs.Offset.{lowered};
 ghost use Rattle.schedule.specs.Columns.{at, columns, Limits};
 ghost use Rattle.picks.specs.Standing.{Tables};
-ghost use Rattle.latest_minute.specs.Latest.{latestStart};
-ghost use Rattle.latest_search.specs.Found.{Halved, StartGiven};
+ghost use Rattle.how_late.specs.Latest.{latestOrder};
+ghost use Rattle.latest_search.specs.Found.{Halved, LatestGiven};
 use schedule::Desk;
 
 // The latest free minute, with the end and the raised worst lateness of its order; or not even minute 0 allows both.
@@ -103,8 +103,8 @@ pub fn latest_for<'a>(
     requires { ⌜ Limits (columns (now release) (now minutes) (now due)) ⌝ }
     requires { ⌜ (1 ≤ n) × (n ≤ mostRows) × Agreeing (columns (now release) (now minutes) (now due)) (countFrom 1 n) ×
         (n ≤ length (now out)) ⌝ }
-    ensures { λ r. ⌜ StartGiven (columns (now (release .entry)) (now (minutes .entry)) (now (due .entry)))
-        (latestStart (columns (now (release .entry)) (now (minutes .entry)) (now (due .entry))) (countFrom 1 n) (lowered end)
+    ensures { λ r. ⌜ LatestGiven (columns (now (release .entry)) (now (minutes .entry)) (now (due .entry)))
+        (latestOrder (columns (now (release .entry)) (now (minutes .entry)) (now (due .entry))) (countFrom 1 n) (lowered end)
         (lowered bound)) (now (out .entry)) r (now (out .exit)) ⌝ }
 {
     let mut rows: [u32; Desk::PLACES] = [0; Desk::PLACES];

@@ -4,7 +4,7 @@ use borrow.Author.Needs.{needs}
 use mathlib.Core.Path.{refl}
 use borrow.Author.Tests.{not-true, not-false}
 use Rattle.plans.proofs.Ranked.{limits-ranked, tables}
-use Rattle.latest_search.proofs.Starts.{start-never, order-long, order-high, start-found}
+use Rattle.latest_search.proofs.Given.{given-never, order-long, order-high, given-found}
 use Rattle.latest_search.proofs.latest_for.Statement.{statement}
 use Rattle.latest_search.proofs.latest_for.Tie as tie
 
@@ -24,7 +24,7 @@ returns c =
     let p = c .before .before .before .before .before .before .before .before .before .before .before .before .before .pre in
     let q = p .1 in
     let t = c .before .before .before .before .before .before .tables .ensures in
-    start-never t (p .0) _ _ (q .0) (q .1) (q .2) _ _ (c .before .halve .ensures) (not-true _ (c .if1 .taken))
+    given-never t (p .0) _ _ (q .0) (q .1) (q .2) _ _ (c .before .halve .ensures) (not-true _ (c .if1 .taken))
 
 write-order-requires : tie.Need-write-order-requires
 write-order-requires c κs =
@@ -52,7 +52,7 @@ returns-2 c =
     let h = c .before .before .before .before .before .before .before .before .halve .ensures in
     let f = not-false _ (c .before .before .before .before .before .before .before .if1 .left) in
     let w = c .before .before .write-order .ensures in
-    start-found t (p .0) _ _ (q .0) (q .1) (q .2) _ _ h f _ w
+    given-found t (p .0) _ _ (q .0) (q .1) (q .2) _ _ h f _ w
 
 pub latest-for-spec : {M : Type 1} → statement M
 latest-for-spec =

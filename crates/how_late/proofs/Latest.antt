@@ -22,10 +22,10 @@ use Rattle.schedule.proofs.Tests.{both, parts, or-cases, or-left, or-right, is-
 use Rattle.schedule.proofs.Best.{order-pair, pair-order}
 use Rattle.schedule.proofs.LaterStart.{later-start}
 use Rattle.schedule.proofs.Cover.{tried, whole, signed, promised}
-use Rattle.latest_minute.specs.Latest.{meets, someMeets, Start, startAt, startBy, allowed, latestFree, latestStart}
-use Rattle.latest_minute.specs.Latest.{Allowed, LatestFree}
-use Rattle.latest_minute.specs.Laws.{endsBy, inTime, LatestMinute}
-use Rattle.latest_minute.proofs.Greatest.{Greatest, greatest-found, greatest-is, greatest-none, zero-fails}
+use Rattle.how_late.specs.Latest.{meets, someMeets, OrderFrom, fromMinute, fromFree, allowed, latestFree, latestOrder}
+use Rattle.how_late.specs.Latest.{Allowed, LatestFree}
+use Rattle.how_late.specs.Laws.{endsBy, inTime, HowLate}
+use Rattle.how_late.proofs.Greatest.{Greatest, greatest-found, greatest-is, greatest-none, zero-fails}
 
 -- # Some pair of a list has both numbers at most the wanted ones
 meets-some : (end late : ℤ) (ps : List Pair) (p : Pair) → List·Memᴰ p ps → T (meets end late p) → T (someMeets end late ps)
@@ -115,13 +115,13 @@ module _ (job : ℕ → Job) (left : List ℕ) (end late : ℤ) where
     λ h. greatest-none (allowed job left end late) latestMinute (λ s l p. h (earlier 0 s (omega arith) (allowed-some s p))),
   )
 
-  -- # A start by the latest free minute
-  start-none : latestFree job left end late ≡ none → latestStart job left end late ≡ none
-  start-none e = ap (startBy (λ t. orderFor job t left late)) e
+  -- # The order from the latest free minute
+  from-none : latestFree job left end late ≡ none → latestOrder job left end late ≡ none
+  from-none e = ap (fromFree (λ t. orderFor job t left late)) e
 
-  start-some : (t : ℕ) → latestFree job left end late ≡ some t → (order : List ℕ) → orderFor job t left late ≡ some order →
-      latestStart job left end late ≡ some (record { minute = t; order = order })
-  start-some t e order g = ap (startBy (λ t. orderFor job t left late)) e ∙ ap (startAt t) g
+  from-some : (t : ℕ) → latestFree job left end late ≡ some t → (order : List ℕ) → orderFor job t left late ≡ some order →
+      latestOrder job left end late ≡ some (record { minute = t; order = order })
+  from-some t e order g = ap (fromFree (λ t. orderFor job t left late)) e ∙ ap (fromMinute t) g
 
   -- # Rows that agree: the order for the wanted lateness decides a minute, since it ends soonest of those that keep it
   module _ (agreeing : Agreeing job left) (some-row : 0 < length left) where
@@ -168,7 +168,7 @@ module _ (job : ℕ → Job) (left : List ℕ) (end late : ℤ) where
     never : test 0 ≡ false → latestFree job left end late ≡ none
     never e = unreachable .1 (λ a. subst T e (allowed-in-time 0 a))
 
-    -- # The latest start
+    -- # The latest free minute with its order
     order-at : (t : ℕ) → Allows t → (order : List ℕ) × (orderFor job t left late ≡ some order)
     order-at t a = step (orderFor job t left late) refl
       where
@@ -176,35 +176,35 @@ module _ (job : ℕ → Job) (left : List ℕ) (end late : ℤ) where
         step none e = absurd (three t .unkept late .0 e (a .0) (a .1 .whole) (a .1 .lates))
         step (some order) e = (order, refl)
 
-    start : (s : Start) → (latestStart job left end late ≡ some s) ↔
+    order-from : (s : OrderFrom) → (latestOrder job left end late ≡ some s) ↔
         (LatestFree job left end late (s .minute) × (orderFor job (s .minute) left late ≡ some (s .order)))
-    start s = (
+    order-from s = (
       λ e. there e (latestFree job left end late) refl,
-      λ l. start-some (s .minute) (found (s .minute) .1 (l .0)) (s .order) (l .1),
+      λ l. from-some (s .minute) (found (s .minute) .1 (l .0)) (s .order) (l .1),
     )
       where
-        there : latestStart job left end late ≡ some s → (o : Option ℕ) → latestFree job left end late ≡ o →
+        there : latestOrder job left end late ≡ some s → (o : Option ℕ) → latestFree job left end late ≡ o →
             LatestFree job left end late (s .minute) × (orderFor job (s .minute) left late ≡ some (s .order))
-        there e none g = absurd (Option·none-ne-some s (sym (start-none g) ∙ e))
+        there e none g = absurd (Option·none-ne-some s (sym (from-none g) ∙ e))
         there e (some t) g =
             let l = found t .0 g in
             let o = order-at t (l .exactly t (l .in-range) .1 (omega arith)) in
-            let same : record { minute = t; order = o .0 } ≡ s = Option·some-injective _ s (sym (start-some t g (o .0) (o .1)) ∙ e) in
-            subst (λ (s : Start). LatestFree job left end late (s .minute) × (orderFor job (s .minute) left late ≡ some (s .order))) same
+            let same : record { minute = t; order = o .0 } ≡ s = Option·some-injective _ s (sym (from-some t g (o .0) (o .1)) ∙ e) in
+            subst (λ (s : OrderFrom). LatestFree job left end late (s .minute) × (orderFor job (s .minute) left late ≡ some (s .order))) same
             (l, o .1)
 
-    no-start : (latestStart job left end late ≡ none) ↔ (¬ Allows 0)
-    no-start = (λ e a. there e a (latestFree job left end late) refl, λ h. start-none (unreachable .1 h))
+    no-order : (latestOrder job left end late ≡ none) ↔ (¬ Allows 0)
+    no-order = (λ e a. there e a (latestFree job left end late) refl, λ h. from-none (unreachable .1 h))
       where
-        there : latestStart job left end late ≡ none → Allows 0 → (o : Option ℕ) → latestFree job left end late ≡ o → ⊥
+        there : latestOrder job left end late ≡ none → Allows 0 → (o : Option ℕ) → latestFree job left end late ≡ o → ⊥
         there e a none g = unreachable .0 g a
         there e a (some t) g =
             let l = found t .0 g in
             let o = order-at t (l .exactly t (l .in-range) .1 (omega arith)) in
-            Option·none-ne-some _ (sym e ∙ start-some t g (o .0) (o .1))
+            Option·none-ne-some _ (sym e ∙ from-some t g (o .0) (o .1))
 
-pub latest-minute : LatestMinute
-latest-minute job left end late = (
+pub how-late : HowLate
+how-late job left end late = (
   record { found = found job left end late; unreachable = unreachable job left end late; earlier = earlier job left end late },
   λ agreeing some-row. record {
     decides = λ t. (
@@ -213,7 +213,7 @@ latest-minute job left end late = (
     );
     next = next job left end late agreeing some-row;
     never = never job left end late agreeing some-row;
-    start = start job left end late agreeing some-row;
-    no-start = no-start job left end late agreeing some-row;
+    order-from = order-from job left end late agreeing some-row;
+    no-order = no-order job left end late agreeing some-row;
   },
 )

@@ -14,7 +14,7 @@ use Rattle.schedule.specs.Limits.{latestMinute}
 use Rattle.schedule.specs.Desk.{endOf}
 use Rattle.schedule.specs.Picks.{orderFor}
 use Rattle.schedule.specs.Cover.{Agreeing}
-use Rattle.latest_minute.specs.Latest.{Start, latestFree, latestStart, Allowed, LatestFree}
+use Rattle.how_late.specs.Latest.{OrderFrom, latestFree, latestOrder, Allowed, LatestFree}
 
 -- An order, if there is one, ends by the wanted end.
 abbrev pub endsBy : (ℕ → Job) → (end : ℤ) → ℕ → Option (List ℕ) → Bool
@@ -34,16 +34,16 @@ module _ (job : ℕ → Job) (left : List ℕ) (end late : ℤ) where
   inTime t = endsBy job end t (orderFor job t left late)
 
   -- Of rows that agree: that order decides the minute, so two orders tell the latest free minute: at it and at the next, if there is one.
-  -- And a start is the latest exactly if its minute is and its order is the one for the wanted lateness.
+  -- And a minute with an order is the latest exactly if the minute is and the order is the one for the wanted lateness from it.
   pub record LatestLaws : Type 0 where
     pub decides : (t : ℕ) → (inTime t ≡ true) ↔ Allowed job left end late t
     pub next : (t : ℕ) → t ≤ latestMinute → inTime t ≡ true → (t < latestMinute → inTime (suc t) ≡ false) →
         latestFree job left end late ≡ some t
     pub never : inTime 0 ≡ false → latestFree job left end late ≡ none
-    pub start : (s : Start) → (latestStart job left end late ≡ some s) ↔
+    pub order-from : (s : OrderFrom) → (latestOrder job left end late ≡ some s) ↔
         (LatestFree job left end late (s .minute) × (orderFor job (s .minute) left late ≡ some (s .order)))
-    pub no-start : (latestStart job left end late ≡ none) ↔ (¬ Allowed job left end late 0)
+    pub no-order : (latestOrder job left end late ≡ none) ↔ (¬ Allowed job left end late 0)
 
-abbrev pub LatestMinute : Type 0
-LatestMinute = (job : ℕ → Job) (left : List ℕ) (end late : ℤ) → LatestHolds job left end late ×
+abbrev pub HowLate : Type 0
+HowLate = (job : ℕ → Job) (left : List ℕ) (end late : ℤ) → LatestHolds job left end late ×
     (Agreeing job left → 0 < length left → LatestLaws job left end late)

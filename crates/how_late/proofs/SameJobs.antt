@@ -1,4 +1,4 @@
--- Jobs that are the same on the rows 1 to n have the same latest start. Assumes nothing.
+-- Jobs that are the same on the rows 1 to n have the same latest free minute and order. Assumes nothing.
 use Prim.Native.Nat.{ℕ, _≤_}
 use mathlib.Core.Path.{_≡_, refl, sym, _∙_, subst}
 use mathlib.Core.List.{List·Memᴰ}
@@ -12,8 +12,8 @@ use Rattle.schedule.specs.Desk.{Pair, pairOf}
 use Rattle.schedule.specs.Profiles.{orderBy}
 use Rattle.schedule.proofs.Orders.{perm-all}
 use Rattle.schedule.proofs.SameJobs.{same-pair, same-order}
-use Rattle.latest_minute.specs.Latest.{startBy, latestFree, latestStart, Allowed}
-use Rattle.latest_minute.proofs.Latest.{latest-minute}
+use Rattle.how_late.specs.Latest.{fromFree, latestFree, latestOrder, Allowed}
+use Rattle.how_late.proofs.Latest.{how-late}
 
 module _ (n : ℕ) (end late : ℤ) where
   abbrev Same : (ℕ → Job) → (ℕ → Job) → Type 0
@@ -43,11 +43,11 @@ module _ (n : ℕ) (end late : ℤ) where
         step : (x : Option ℕ) → latestFree job (countFrom 1 n) end late ≡ x →
             latestFree job (countFrom 1 n) end late ≡ latestFree job′ (countFrom 1 n) end late
         step none e =
-            e ∙ sym (latest-minute job′ (countFrom 1 n) end late .0 .unreachable .1
-            (λ a. latest-minute job (countFrom 1 n) end late .0 .unreachable .0 e (allowed-too job′ job back 0 a)))
+            e ∙ sym (how-late job′ (countFrom 1 n) end late .0 .unreachable .1
+            (λ a. how-late job (countFrom 1 n) end late .0 .unreachable .0 e (allowed-too job′ job back 0 a)))
         step (some t) e =
-            let l = latest-minute job (countFrom 1 n) end late .0 .found t .0 e in
-            e ∙ sym (latest-minute job′ (countFrom 1 n) end late .0 .found t .1 (record {
+            let l = how-late job (countFrom 1 n) end late .0 .found t .0 e in
+            e ∙ sym (how-late job′ (countFrom 1 n) end late .0 .found t .1 (record {
               in-range = l .in-range;
               exactly = λ s h. (
                 λ a. l .exactly s h .0 (allowed-too job′ job back s a),
@@ -55,6 +55,6 @@ module _ (n : ℕ) (end late : ℤ) where
               );
             }))
 
-    pub start-same : latestStart job (countFrom 1 n) end late ≡ latestStart job′ (countFrom 1 n) end late
+    pub order-same : latestOrder job (countFrom 1 n) end late ≡ latestOrder job′ (countFrom 1 n) end late
     unfolding orderBy
-    start-same = λ x. startBy (λ t. same-order job job′ n same Ordering t late x) (free-same x)
+    order-same = λ x. fromFree (λ t. same-order job job′ n same Ordering t late x) (free-same x)

@@ -1,4 +1,4 @@
--- From what is found of the rows by rank to the latest start of the rows themselves. Assumes nothing.
+-- From what is found of the rows by rank to the latest free minute and order of the rows themselves. Assumes nothing.
 use Prim.Native.Nat.{ℕ, suc, _≤_, _<_}
 use native.Mathlib.Omega.{arith}
 use mathlib.Core.Bool.{true, false}
@@ -26,13 +26,13 @@ use Rattle.listing.specs.declared.Planned.the-variants.{Kept, Unkept}
 use Rattle.listing.specs.PlanFor.{plannedOf}
 use Rattle.arrival.specs.Given.{writtenOf, OrderGiven}
 use Rattle.plans.proofs.Ranked.{new, ranks-high, ordered-kept}
-use Rattle.latest_minute.specs.Latest.{latestFree, latestStart, Start}
-use Rattle.latest_minute.specs.Laws.{endsBy, LatestHolds, LatestLaws}
-use Rattle.latest_minute.proofs.Latest.{latest-minute}
+use Rattle.how_late.specs.Latest.{latestFree, latestOrder, OrderFrom}
+use Rattle.how_late.specs.Laws.{endsBy, LatestHolds, LatestLaws}
+use Rattle.how_late.proofs.Latest.{how-late}
 use Rattle.latest_search.specs.declared.Latest.{Latest}
 use Rattle.latest_search.specs.declared.Latest.the-variants.{At, Never}
 use Rattle.latest_search.specs.declared.Halving.{Halving}
-use Rattle.latest_search.specs.Found.{inTimeAt, Reached, Halved, latestOf, orderOf, StartGiven}
+use Rattle.latest_search.specs.Found.{inTimeAt, Reached, Halved, latestOf, orderOf, LatestGiven}
 
 -- The pair that is answered for a bound, as an answer from the minute t.
 abbrev from : ℕ → Planned → Latest
@@ -65,20 +65,20 @@ module _ {n : ℕ} {release minutes due rows releases lengths dues by : List ℕ
 
   module _ (low : 1 ≤ n) (few : n ≤ mostRows) (agreeing : Agreeing job (countFrom 1 n)) (out : List ℕ) (r : Halving)
       (h : Halved ranked n end bound r) where
-    abbrev start : Option Start
-    start = latestStart job (countFrom 1 n) (lowered end) (lowered bound)
+    abbrev answer : Option OrderFrom
+    answer = latestOrder job (countFrom 1 n) (lowered end) (lowered bound)
 
     holds : LatestHolds job (countFrom 1 n) (lowered end) (lowered bound)
-    holds = latest-minute job (countFrom 1 n) (lowered end) (lowered bound) .0
+    holds = how-late job (countFrom 1 n) (lowered end) (lowered bound) .0
 
     laws : LatestLaws job (countFrom 1 n) (lowered end) (lowered bound)
-    laws = latest-minute job (countFrom 1 n) (lowered end) (lowered bound) .1 agreeing (omega (arith, length-count 1 n))
+    laws = how-late job (countFrom 1 n) (lowered end) (lowered bound) .1 agreeing (omega (arith, length-count 1 n))
 
-    pub start-never : r .found ≡ false → StartGiven job start out Never out
+    pub given-never : r .found ≡ false → LatestGiven job answer out Never out
     unfolding latestOf orderOf writtenOf
-    start-never f =
-        let e : start ≡ none = laws .no-start .1 (holds .unreachable .0 (laws .never (in-time-ranked 0 ∙ h .never f))) in
-        record { answered = ap (latestOf job) (sym e); buffer = ap (λ (o : Option Start). writtenOf (orderOf o) out) (sym e) }
+    given-never f =
+        let e : answer ≡ none = laws .no-order .1 (holds .unreachable .0 (laws .never (in-time-ranked 0 ∙ h .never f))) in
+        record { answered = ap (latestOf job) (sym e); buffer = ap (λ (o : Option OrderFrom). writtenOf (orderOf o) out) (sym e) }
 
     module _ (f : r .found ≡ true) where
       reached : Reached ranked n end bound (r .minute) (r .desk) (r .order)
@@ -90,10 +90,10 @@ module _ {n : ℕ} {release minutes due rows releases lengths dues by : List ℕ
       pub order-high : (i : ℕ) → i < n → at (r .order) i ≤ mostRows
       order-high = ranks-high t limits low few (r .minute) bound out (reached .standing) (r .order) (reached .searched) (reached .kept)
 
-      pub start-found : (after : List ℕ) → after ≡ map (at rows) (take n (r .order)) ++ drop n out →
-          StartGiven job start out (At (r .minute) (r .desk .minute) (r .desk .worst)) after
+      pub given-found : (after : List ℕ) → after ≡ map (at rows) (take n (r .order)) ++ drop n out →
+          LatestGiven job answer out (At (r .minute) (r .desk .minute) (r .desk .worst)) after
       unfolding latestOf orderOf writtenOf plannedOf
-      start-found after w = step (orderAtRaised job n (r .minute) bound) refl
+      given-found after w = step (orderAtRaised job n (r .minute) bound) refl
         where
           given : OrderGiven job (r .minute) (orderAtRaised job n (r .minute) bound) bound out
               (Kept (reached .standing .desk .minute) (reached .standing .desk .worst)) after
@@ -105,18 +105,18 @@ module _ {n : ℕ} {release minutes due rows releases lengths dues by : List ℕ
           same-desk = ap (λ (d : Desk). At (r .minute) (d .minute) (d .worst)) (reached .after)
 
           step : (x : Option (List ℕ)) → orderAtRaised job n (r .minute) bound ≡ x →
-              StartGiven job start out (At (r .minute) (r .desk .minute) (r .desk .worst)) after
+              LatestGiven job answer out (At (r .minute) (r .desk .minute) (r .desk .worst)) after
           step none e =
               false-is-true (sym (ap (endsBy job (lowered end) (r .minute)) e) ∙ (in-time-ranked (r .minute) ∙ reached .in-time))
           step (some order) e =
               let latest : latestFree job (countFrom 1 n) (lowered end) (lowered bound) ≡ some (r .minute) =
               laws .next (r .minute) (h .within f) (in-time-ranked (r .minute) ∙ reached .in-time)
               (λ l. in-time-ranked (suc (r .minute)) ∙ h .next f l) in
-              let s : Start = record { minute = r .minute; order = order } in
-              let e-start : start ≡ some s = laws .start s .1 (holds .found (r .minute) .0 latest, e) in
+              let s : OrderFrom = record { minute = r .minute; order = order } in
+              let is-answer : answer ≡ some s = laws .order-from s .1 (holds .found (r .minute) .0 latest, e) in
               record {
                 answered = same-desk ∙ (ap (from (r .minute)) (given .answered ∙ ap (plannedOf job (r .minute)) e) ∙
-                    ap (latestOf job) (sym e-start));
+                    ap (latestOf job) (sym is-answer));
                 buffer = given .buffer ∙ (ap (λ (o : Option (List ℕ)). writtenOf o out) e ∙
-                    ap (λ (o : Option Start). writtenOf (orderOf o) out) (sym e-start));
+                    ap (λ (o : Option OrderFrom). writtenOf (orderOf o) out) (sym is-answer));
               }

@@ -27,19 +27,19 @@ unfoldable pub greatest : (ℕ → Bool) → (n : ℕ) → Option ℕ
 greatest test zero = cond (test 0) (some 0) none
 greatest test (suc n) = cond (test (suc n)) (some (suc n)) (greatest test n)
 
--- A start of the desk: its free minute, and the order in which the rows are taken from it.
-pub record Start : Type 0 where
+-- A free minute of the desk, and the order in which the rows are taken from it.
+pub record OrderFrom : Type 0 where
   pub minute : ℕ
   pub order : List ℕ
 
-abbrev pub startAt : ℕ → Option (List ℕ) → Option Start
-startAt t none = none
-startAt t (some order) = some (record { minute = t; order = order })
+abbrev pub fromMinute : ℕ → Option (List ℕ) → Option OrderFrom
+fromMinute t none = none
+fromMinute t (some order) = some (record { minute = t; order = order })
 
--- The start at a minute, if there is one, with the order that is taken from there.
-abbrev pub startBy : (orders : ℕ → Option (List ℕ)) → Option ℕ → Option Start
-startBy orders none = none
-startBy orders (some t) = startAt t (orders t)
+-- The minute that is found, if there is one, with the order that is taken from there.
+abbrev pub fromFree : (orders : ℕ → Option (List ℕ)) → Option ℕ → Option OrderFrom
+fromFree orders none = none
+fromFree orders (some t) = fromMinute t (orders t)
 
 module _ (job : ℕ → Job) (left : List ℕ) (end late : ℤ) where
   -- Some order of the rows keeps both from the minute t on.
@@ -51,8 +51,8 @@ module _ (job : ℕ → Job) (left : List ℕ) (end late : ℤ) where
   latestFree = greatest allowed latestMinute
 
   -- With the order for the wanted lateness from there.
-  abbrev pub latestStart : Option Start
-  latestStart = startBy (λ t. orderFor job t left late) latestFree
+  abbrev pub latestOrder : Option OrderFrom
+  latestOrder = fromFree (λ t. orderFor job t left late) latestFree
 
   -- The same, said of orders: an order of the rows keeps both from the minute t on; some order does.
   pub record KeepsBoth (t : ℕ) (order : List ℕ) : Type 0 where

@@ -7,7 +7,7 @@ use mathlib.Core.Path.{_≡_, refl, sym, ap, _∙_, subst}
 use mathlib.Core.Option.{none, some, Option·some-injective, Option·none-ne-some}
 use lib.Dec.{T}
 use Rattle.schedule.proofs.Tests.{is-true, true-is}
-use Rattle.latest_minute.specs.Latest.{greatest}
+use Rattle.how_late.specs.Latest.{greatest}
 
 -- A test that is not passed.
 pub fails : (b : Bool) → ¬ T b → b ≡ false
