@@ -190,8 +190,8 @@ module _ (job : ℕ → Job) (left : List ℕ) (end late : ℤ) where
             let l = found t .0 g in
             let o = order-at t (l .exactly t (l .in-range) .1 (omega arith)) in
             let same : record { minute = t; order = o .0 } ≡ s = Option·some-injective _ s (sym (from-some t g (o .0) (o .1)) ∙ e) in
-            subst (λ (s : OrderFrom). LatestFree job left end late (s .minute) × (orderFor job (s .minute) left late ≡ some (s .order))) same
-            (l, o .1)
+            subst (λ (s : OrderFrom). LatestFree job left end late (s .minute) × (orderFor job (s .minute) left late ≡ some (s .order)))
+            same (l, o .1)
 
     no-order : (latestOrder job left end late ≡ none) ↔ (¬ Allows 0)
     no-order = (λ e a. there e a (latestFree job left end late) refl, λ h. from-none (unreachable .1 h))

@@ -1,5 +1,6 @@
--- What the halving of the minutes finds, and what is given of the latest free minute with its order, of rows in columns. Latenesses, bounds and the wanted end are raised
--- by 2³¹. Rests on: the latest free minute, the search for the order for a bound, the words of a result buffer.
+-- What the halving of the minutes finds, and what is given of the latest free minute with its order, of rows in columns. Latenesses,
+-- bounds and the wanted end are raised by 2³¹. Rests on: how late the desk can open, the search for the order for a bound, the order that
+-- is written to a buffer.
 use Prim.Native.Nat.{ℕ, suc, _≤_, _<_}
 use mathlib.Core.Bool.{Bool, true, false}
 use mathlib.Core.Path.{_≡_}
