@@ -58,17 +58,17 @@ step 'cargo test' tests
 step 'Rust example' example day
 step 'Rust example of a morning' example morning
 step 'Rust example of a bureau' example bureau
-step 'Rust example of a late opening' example latest
+step 'Rust example of the latest free minute' example latest
 step 'C example' c_program example
 step 'C example of a morning' c_program morning
 step 'C example of a bureau' c_program bureau
-step 'C example of a late opening' c_program latest
+step 'C example of the latest free minute' c_program latest
 step 'C guard pages' c_program guard_pages
 if command -v valgrind >/dev/null; then
     step 'C example under valgrind' checked example
     step 'C example of a morning under valgrind' checked morning
     step 'C example of a bureau under valgrind' checked bureau
-    step 'C example of a late opening under valgrind' checked latest
+    step 'C example of the latest free minute under valgrind' checked latest
 else
     echo '== valgrind is not there: not run'
 fi
