@@ -26,7 +26,8 @@ use Rattle.latest_free.proofs.Outcomes.{call-refused}
 use Rattle.latest_promises.specs.Promise.{latest, LatestTurned, narrow, unreachable, LatestPromise}
 use Rattle.latest_promises.proofs.Answered.{rows-length, says-narrow, says-unreachable, says-from, latest-with, is-answered}
 use Rattle.latest_promises.proofs.Refused.{exactly}
-use Rattle.latest_promises.proofs.FreeWord.{free-unused, bound-from}
+use Rattle.latest_promises.proofs.FreeWord.{free-unused}
+use Rattle.latest_promises.proofs.Bounds.{bound-from, next-late}
 
 -- The numbers that the conditions tell.
 numbers : {opening : ℕ} {book : List ℕ} {end late : ℤ} {b : List ℕ} {n p : ℕ} →
@@ -74,4 +75,5 @@ latest-free-holds = record {
       is-answered opening book end late b day (takes (orderingRule opening) book day .1 t) wide;
   free-word = free-unused;
   as-bound = bound-from;
+  next-minute = next-late;
 }

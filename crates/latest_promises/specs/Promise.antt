@@ -1,20 +1,20 @@
 -- How late the desk can open: what is promised of the call, for every opening, book, wanted end, wanted lateness and buffer. The proof is
 -- `latest-free-holds`, in proofs/Promise.antt. That the function does what is said here of its call is its contract (latest_free/src).
 -- Rests on: the latest free minute (how_late), the table of a book's refusals and what it is to take a book (promises).
-use Prim.Native.Nat.{ℕ, _≤_, _<_}
+use Prim.Native.Nat.{ℕ, suc, _≤_, _<_}
 use mathlib.Core.Path.{_≡_}
 use mathlib.Core.List.{List}
 use mathlib.Core.Logic.{_↔_, _⊎_}
 use mathlib.Core.Option.{some}
 use lib.ListN.{length}
-use lib.IntN.{ℤ}
-use lib.Signed.{_≤ℤ_}
+use lib.IntN.{ℤ, pos}
+use lib.Signed.{_≤ℤ_, _<ℤ_}
 use Rattle.theory.specs.Jobs.{Job}
 use Rattle.schedule.specs.Limits.{latestMinute}
 use Rattle.schedule.specs.Rows.{Day, jobs, rowNumbers}
 use Rattle.schedule.specs.Desk.{OrderOf, endOf, pairOf}
 use Rattle.schedule.specs.Picks.{orderFor}
-use Rattle.refusals.specs.Refusals.{byNarrow, byUnreachable}
+use Rattle.refusals.specs.Refusals.{byNarrow, byUnkept, byUnreachable}
 use Rattle.grammar.specs.FreeWord.{bookFrom}
 use Rattle.readers.specs.Reads.{orderingRule}
 use Rattle.results.specs.Results.{written}
@@ -59,6 +59,10 @@ module _ (opening : ℕ) (day : Day) (end late : ℤ) where
     narrow : length b < length (day .rows) → LatestTurned b byNarrow 0
     unreachable : length (day .rows) ≤ length b → ¬ Allowed seen (rowNumbers day) end late 0 → LatestTurned b byUnreachable 0
 
+-- What the call for the bound says is too late for the wanted end: no order keeps the bound, or the one that ends soonest ends past it.
+abbrev pub Late : (end : ℤ) → Said → Type 0
+Late end said = Refuses said byUnkept 0 ⊎ (end <ℤ pos (said .end))
+
 -- # What is promised
 pub record LatestPromise : Type 0 where
   -- A refused call returns one of these numbers, and the buffer holds what it held; no call makes it longer or shorter.
@@ -80,3 +84,8 @@ pub record LatestPromise : Type 0 where
       o .answer .number ≡ 0 →
       bound (orderingRule opening) (bookFrom (o .answer .minute) rest) late b ≡
       gives (saidPair (record { end = o .answer .end; late = o .answer .late })) (o .buffer)
+  -- And asked of the book from the next minute, if that is in range, it is refused as unkept or ends past the wanted end.
+  pub next-minute : (opening free : ℕ) (rest : List ℕ) (end late : ℤ) (b : List ℕ) →
+      let o = latest opening (bookFrom free rest) end late b in
+      o .answer .number ≡ 0 → o .answer .minute < latestMinute →
+      Late end (bound (orderingRule opening) (bookFrom (suc (o .answer .minute)) rest) late b .answer)
