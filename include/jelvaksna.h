@@ -176,8 +176,9 @@
  * hold what they held. A refused call writes nothing.
  *
  * STACK. A call uses up to 40 KB of its caller's stack, that of several desks
- * up to 80 KB, as measured on x86-64; that there is room is not proved. Give a
- * thread that calls 64 KB at least, for several desks 96 KB.
+ * up to 84 KB, as measured on x86-64; that there is room is not proved. In a
+ * program that looks up memcpy where it is first called, the first call uses 2
+ * KB more. Give a thread that calls 64 KB at least, for several desks 96 KB.
  *
  * THE SEQUENCE OF REFUSALS. A call that is told an opening, or lent a desk in
  * place of a book, begins with RANGE, at 0; that of several desks tests there

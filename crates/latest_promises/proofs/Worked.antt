@@ -1,14 +1,15 @@
 -- The worked days hold: what is told is computed by the orders at the minute told and at the next, which is enough. Assumes nothing.
 use Prim.Native.Nat.{ℕ, suc, _≤_}
+use native.Mathlib.Omega.{arith}
 use mathlib.Core.Bool.{Bool, true, false, not, _&&_, _||_}
-use mathlib.Core.Path.{_≡_, refl, sym, ap, _∙_}
+use mathlib.Core.Path.{_≡_, refl, ap, _∙_}
 use mathlib.Core.List.{List, map}
 use mathlib.Core.Option.{Option, none, some, Option·some-injective, Option·none-ne-some}
-use lib.Dec.{leb, ltb}
+use lib.Dec.{leb, ltb, leb→le}
 use lib.ListN.{length}
 use lib.IntN.{ℤ}
-use borrow.Author.Tests.{leb-true, lt-leb, ltb-true, ltb-false, not-true}
-use Rattle.schedule.proofs.Tests.{false-is-true}
+use borrow.Author.Tests.{ltb-true, ltb-false, not-true}
+use Rattle.schedule.proofs.Tests.{parts, or-second, is-true, true-is}
 use Rattle.schedule.specs.Limits.{latestMinute}
 use Rattle.schedule.specs.Rows.{Day, jobs, rowNumbers, openRows}
 use Rattle.schedule.specs.Desk.{pairOf, openDesk}
@@ -55,14 +56,6 @@ module _ (opening : ℕ) (end late : ℤ) (b : List ℕ) (t : ℕ) where
   shown (refused n p) = some (gives (saidNo n p) b)
   shown (accepted day) = byRoom day (ltb (length b) (length (day .rows)))
 
-  both-parts : (x y : Bool) → (x && y) ≡ true → (x ≡ true) × (y ≡ true)
-  both-parts true y e = (refl, e)
-  both-parts false y e = absurd (false-is-true e)
-
-  either : (x y : Bool) → (x || y) ≡ true → x ≡ false → y ≡ true
-  either true y e f = false-is-true (sym f)
-  either false y e f = e
-
   module _ (book : List ℕ) where
     abbrev o : Outcome Said
     o = latest opening book end late b
@@ -74,10 +67,11 @@ module _ (opening : ℕ) (end late : ℤ) (b : List ℕ) (t : ℕ) where
       by-order wide l (some order) e told s =
           let test = inTime (jobs opening day) (rowNumbers day) end late in
           let k = laws opening book end late b day reads in
-          let early = both-parts (leb t latestMinute) _ l in
-          let timed = both-parts (test t) _ (early .1) in
-          let free = k .next t (leb-true t latestMinute (early .0)) (timed .0)
-          (λ h. not-true (test (suc t)) (either (leb latestMinute t) _ (timed .1) (lt-leb latestMinute t h))) in
+          let early = parts (leb t latestMinute) (test t && (leb latestMinute t || not (test (suc t)))) (is-true _ l) in
+          let timed = parts (test t) (leb latestMinute t || not (test (suc t))) (early .1) in
+          let free = k .next t (leb→le t latestMinute (early .0)) (true-is (test t) (timed .0))
+          (λ h. not-true (test (suc t)) (true-is (not (test (suc t))) (or-second (leb latestMinute t) (not (test (suc t))) (timed .1)
+          (λ w. omega (arith, h, leb→le latestMinute t w))))) in
           let it : OrderFrom = record { minute = t; order = order } in
           let is-it = k .order-from it .1 (how-late (jobs opening day) (rowNumbers day) end late .0 .found t .0 free, e) in
           says-from opening book end late b day reads wide it is-it ∙ Option·some-injective _ told s
