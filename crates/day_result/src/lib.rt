@@ -1,5 +1,6 @@
 // A day of a month: what a book and the order that was posted for it come to. `day_result` is the one function offered: it has no
 // `requires`, and its contract gives its result outright.
+#![tactic(auto)]
 ghost use Rattle.std.specs.Prelude.{◌≡◌, ℕ, ◌+◌, ◌≤◌, length, get_or};
 ghost use Rattle.schedule.specs.Limits.{most_rows, longest_time};
 ghost use Rattle.schedule.specs.declared.Profile.TheVariants.{Ordering};

@@ -25,6 +25,7 @@
 //
 // A refusal is printed as number@place, a pair as (end lateness). Of a call into a buffer of N words only the pair or the count of plans is
 // printed, and then how many words of the buffer hold what they held.
+#![tactic(auto)]
 mod asked;
 mod commands;
 mod input;

@@ -6,6 +6,7 @@
 //     OPENING                                   a line of one number: the opening minutes of the books after it, and the counts begin
 //                                               again; at first they are 0
 //     # ..                                      a comment, to the end of its line
+#![tactic(auto)]
 mod asked;
 mod compare;
 mod day;

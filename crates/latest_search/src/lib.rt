@@ -2,6 +2,7 @@
 // Rows are numbered from 1, so columns have 257 places; 0 stands for no row. Latenesses, bounds and the wanted end are raised by 2^31.
 // The working tables are made once a call. The minute is found by halving, with one search for the order for the bound at each minute
 // that is tried: at most 25.
+#![tactic(auto)]
 ghost use Rattle.std.specs.Prelude.{◌≡◌, ◌&&◌, ◌+◌, ◌≤◌, leb, length};
 ghost use Rattle.schedule.specs.Limits.{most_rows};
 ghost use Rattle.schedule.specs.Rows.{count_from};

@@ -2,6 +2,7 @@
 // as it is in, so a window of one day is all of the input that is held. `month_step::take_day` says what each turn comes to,
 // `report_lines` gives every byte that is printed, so only the reading and the writing are taken on trust: that a window shows the bytes
 // that are left.
+#![tactic(auto)]
 ghost use Rattle.std.specs.Prelude.{◌≡◌, ◌≤◌, length, take};
 
 use libc::{STDIN_FILENO, STDOUT_FILENO};

@@ -1,5 +1,6 @@
 // The input of `month`, as it comes in: a window on the bytes from the start of a day on, the day that is cut off its front, and the window
 // moved on.
+#![tactic(auto)]
 ghost use Rattle.std.specs.Prelude.{◌≡◌, ℕ, ◌+◌, ◌-◌, ◌*◌, ◌≤◌, length, take, drop};
 ghost use Rattle.month_input.specs.Layout.{cut_day};
 ghost use Rattle.month_input.specs.Windows.{cut_of, ExtentWithin};

@@ -7,6 +7,7 @@
 //     posted NUMBER NUMBER ..
 //
 // The next day begins with free. A text of no day is a month of no day.
+#![tactic(auto)]
 ghost use Rattle.std.specs.Prelude.{◌≡◌, ◌+◌, ◌*◌, ◌≤◌, ◌<◌, length, take};
 
 use libc::{STDIN_FILENO, STDOUT_FILENO};

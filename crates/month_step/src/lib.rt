@@ -1,4 +1,5 @@
 // One turn of `month`: the day at the front of a window on the input is cut off, judged, and added to the totals.
+#![tactic(auto)]
 ghost use Rattle.std.specs.Prelude.{◌*◌, ◌≤◌, ◌<◌, length};
 ghost use Rattle.month_input.specs.Layout.{cut_day};
 ghost use Rattle.totals.specs.Held.{days, SumsFit};

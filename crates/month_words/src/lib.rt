@@ -1,5 +1,6 @@
 // The words of a month's input: of each day its book and its posting, each behind its length. The rows of a posting are found by their
 // order numbers.
+#![tactic(auto)]
 ghost use Rattle.std.specs.Prelude.{◌≡◌, ◌+◌, ◌*◌, ◌≤◌, length};
 ghost use Rattle.month_words.specs.Postings.{RowOf, Turned};
 ghost use Rattle.month_words.specs.Days.{PutList, PutDay};

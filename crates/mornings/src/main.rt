@@ -10,6 +10,7 @@
 //
 // A word of a book is written KIND:VALUE. A comma ends a number, and a call takes the numbers of its own line. Of its name only the last
 // letter counts. A refusal is printed as number@place. After a list or an order come the nine words of the buffer, which are 7 before it.
+#![tactic(auto)]
 ghost use Rattle.std.specs.Prelude.{◌≡◌, length};
 
 mod calls;

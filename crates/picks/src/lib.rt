@@ -1,6 +1,7 @@
 // The desk in planning: its picks, and what taking a row makes of it. Rows are numbered by rank, from 1; 0 stands for no row. The
 // released rows left over are bits of five words, and a cursor stands in the rows by release. `take` changes the words in place: giving
 // rows back is keeping a copy of the desk as it was.
+#![tactic(auto)]
 ghost use Rattle.std.specs.Prelude.{◌≡◌, Bool, true, false, ℕ, ◌+◌, ◌≤◌, ◌<◌};
 ghost use mathlib.Core.List.{List, Memᴰ};
 ghost use Rattle.theory.specs.Jobs.{Job};

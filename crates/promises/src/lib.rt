@@ -1,1 +1,2 @@
 // What is promised of the offered calls: statements and their proofs, no code.
+#![tactic(auto)]

@@ -1,5 +1,6 @@
 // The lines that `month` prints, made one after another in a sheet of bytes. Each function adds to a sheet that has `at` bytes, and gives
 // how many it then has; its contract gives the bytes that it adds outright.
+#![tactic(auto)]
 ghost use Rattle.std.specs.Prelude.{◌+◌, ◌*◌, ◌≤◌, length};
 ghost use Rattle.std.proofs.Math.IntN.{sub_ℕ};
 ghost use Rattle.lines.specs.Added.{Added};

@@ -38,5 +38,6 @@ stands_mem n (m ∷ ms) e = go (eqb n m) refl e (stands_mem n ms)
     go false q e f = Memᴰ.tail (f e)
 
 pub mem_stands : (n : ℕ) (ms : List ℕ) → Memᴰ n ms → stands n ms ≡ true
+mem_stands n [] x' = elim x' [ ]
 mem_stands n (m ∷ ms) (Memᴰ.head e) = rw (stands_more n m ms, eq-eqb n m e)
 mem_stands n (m ∷ ms) (Memᴰ.tail t) = rw (stands_more n m ms, mem_stands n ms t) (or_true (eqb n m))

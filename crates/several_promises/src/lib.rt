@@ -1,1 +1,2 @@
 // What is promised of the call for several desks: statements and their proofs, no code.
+#![tactic(auto)]

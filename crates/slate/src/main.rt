@@ -1,5 +1,6 @@
 // Prints the plans of the book on standard input: its rows and plans counted, then a line for each plan; or the refusal. `sheet::fill`
 // gives every byte of it, so only the reading and the writing are taken on trust.
+#![tactic(auto)]
 use libc::{STDIN_FILENO, STDOUT_FILENO};
 use sheet::SHEET;
 

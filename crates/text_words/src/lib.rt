@@ -1,5 +1,6 @@
 // The words of a line of plain text, and the numbers among them. Words stand between blanks; a comment goes from a # to the end of its
 // line. A number is digits only, and fits the 29 bits of the value of a book's word.
+#![tactic(auto)]
 ghost use Rattle.std.specs.Prelude.{◌≡◌, ◌+◌, ◌-◌, ◌≤◌, ◌<◌, length};
 ghost use Rattle.text_words.specs.Numbers.{is_digit, all_digits, decimal, sized, number_of};
 

@@ -35,6 +35,7 @@ front_first {f} {π} u a i o j m =
 -- So it goes to the front of any order, which makes nothing worse; and the others likewise, one after another.
 pub arrival_best : {bias : ℕ} {N π θ : List Job} {t : ℕ} → Uncrossed N → ByArrival π → Order π N → Order θ N → Better bias t θ π
 arrival_best u a done done = record { ends = le_refl _; keeps = λ y w. w }
+arrival_best {bias = bias} {t = t} u a done (next {j = j} {π = π} x17 _) = elim x17 [ ]
 arrival_best {bias} {θ} {t} u a (next {j} i o) q =
     let r = take_right q i in
     let b = arrival_best {bias = bias} (λ k l m n. u k l (ins_sub i m) (ins_sub i n)) a.1 o r.2 in

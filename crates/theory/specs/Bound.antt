@@ -32,6 +32,7 @@ run_in (go d r) m = ins_sub (pick_of d).taken (run_in r m)
 
 pub run_from : {b : Job} {N : List Job} {t : ℕ} {ω N' : List Job} → Run N t ω N' → In b ω → In b N
 run_from (go d r) first = ins_in (pick_of d).taken
+run_from {b = b} (halt {N = N} {t = t} _) x7 = elim x7 [ ]
 run_from (go d r) (later m) = ins_sub (pick_of d).taken (run_from r m)
 
 pub run_moved : {N : List Job} {t : ℕ} {ω N' π : List Job} → Run N t ω N' → Order π N → (κ : List Job) × Order κ N' × Moved t π ω κ
@@ -183,6 +184,7 @@ run_lead y a d o w = let u = decided_first a d o in record { κ = u.0; orders = 
 pub for_best : {bias : ℕ} {y : ℕ} {N : List Job} {t : ℕ} {θ π : List Job} → Agree N → For bias y N t θ → Order π N → Keeps bias y t π →
     end_of t θ ≤ end_of t π
 for_best a for_none done w = le_refl _
+for_best {bias = bias} {y = y} a (for_none {t = t}) (next {j = j} {π = π} x20 _) w = elim x20 [ ]
 for_best {y} a (for_run {θ} d l r) o w = lead_best θ (run_lead y a d o w) (λ κ p k. for_best (agree_ins (pick_of d).taken a) r p k)
 for_best {y} a (for_one {θ} b k r) o w =
     lead_best θ (one_fits y a b.open_at.one b.run o k w) (λ κ p v. for_best (block_in b.open_at.one.taken b.run a) r p v)

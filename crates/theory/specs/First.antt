@@ -87,6 +87,7 @@ part d T (x ∷ ρ) h = step (dec_lt x.due d) (λ T' l. part d T' ρ (λ j m k. 
         }
 
 decided_alone : {bias : ℕ} {f : Job} {ρ π : List Job} {t : ℕ} → Order ρ [] → Ins f ρ π → Better bias t π (f ∷ ρ)
+decided_alone {bias = bias} {f = f} {t = t} (next {j = j} {π = π} x8 _) _ = elim x8 [ ]
 decided_alone done here = record { ends = le_refl _; keeps = λ y w. w }
 
 module _ {N : List Job} {t : ℕ} {f : Job} {M : List Job} {s : Job} {L : List Job} (a : Agree N) (p : Pick N t f M) (q : Pick M t s L)

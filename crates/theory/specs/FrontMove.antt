@@ -127,4 +127,5 @@ moved_order (take i h m) o = let r = take_left o i in next r.1 (moved_order m r.
 
 pub moved_from : {j : Job} {t : ℕ} {π ω κ : List Job} → Moved t π ω κ → In j ω → In j π
 moved_from (take i h m) first = ins_in i
+moved_from {j = j} (none {t = t} {κ = κ}) x6 = elim x6 [ ]
 moved_from (take i h m) (later n) = ins_sub i (moved_from m n)

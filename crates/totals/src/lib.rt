@@ -1,5 +1,6 @@
 // The totals of a month, as its days come in one after another: they go in by value and come back with a day more. What they hold is the
 // report of the days so far (`report_by`).
+#![tactic(auto)]
 ghost use Rattle.std.specs.Prelude.{◌≡◌, [], suc, ◌+◌, ◌≤◌, ◌<◌};
 ghost use Rattle.totals.specs.Report.{with_day, report_of};
 ghost use Rattle.totals.specs.Mean.{mean_of};

@@ -1,4 +1,5 @@
 // Words as bytes, lowest byte first: the words that `input` reads of them are the same again.
+#![tactic(auto)]
 ghost use Rattle.std.specs.Prelude.{◌≡◌, ◌+◌, ◌*◌, ◌%◌, ◌≤◌, length};
 ghost use Rattle.word_bytes.specs.Written.{Put, Written};
 

@@ -1,4 +1,5 @@
 // Says on standard error which line of a text is wrong, and what is wrong there.
+#![tactic(auto)]
 use libc::STDERR_FILENO;
 use text_days::Day;
 use text_words::Numbers;

@@ -1,0 +1,13 @@
+-- `pair_tests` meets its contract: where no pair clashes the test is passed, and else the scan tells.
+-- Assumes nothing.
+use mathlib.Core.Path.{sym, ◌∙◌}
+use Rattle.pairs.proofs.Columns.{none_clashes}
+use Rattle.pairs.proofs.pair_tests.Goals as goal
+
+pub returns-then-any_clash : goal.returns-then-any_clash
+returns-then-any_clash c = c.earliest_clash.ensures
+
+pub returns-else-any_clash : goal.returns-else-any_clash
+returns-else-any_clash c =
+    let a = c.args in
+    none_clashes a.dues.now a.seconds.now a.count a.number (sym c.any_clash.ensures ∙ c.if-any_clash.false)
