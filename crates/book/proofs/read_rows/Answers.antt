@@ -2,7 +2,7 @@
 -- Assumes nothing.
 use Prim.Native.Nat.{ℕ, ◌≤◌, ◌<◌, ◌+◌, ◌-◌}
 use native.Mathlib.Omega.{arith}
-use mathlib.Core.Bool.{true, false}
+use mathlib.Core.Bool.{Bool, true, false}
 use mathlib.Core.Path.{◌≡◌, ap, sym, ◌∙◌}
 use mathlib.Core.List.{List}
 use lib.ListN.{length, take, drop, length-drop}
@@ -11,6 +11,7 @@ use Rattle.schedule.specs.Limits.{most_rows}
 use Rattle.refusals.specs.declared.Tested.{Tested}
 use Rattle.refusals.specs.declared.Tested.TheVariants.{Passed}
 use Rattle.row_reader.specs.RowWords.{row_tests, row_of}
+use Rattle.row_reader.specs.declared.RowRead.{RowRead}
 use Rattle.row_reader.specs.Cited.{row_read_of}
 use Rattle.book.specs.Rows.{end_stands, end_tests}
 use Rattle.book.specs.Tables.{table_of, unless_refused}
@@ -21,44 +22,20 @@ use Rattle.book.proofs.Reached.{whole_row, refused_tests}
 use Rattle.book.proofs.read_rows.Goals as goal
 
 -- The end word does not stand at the start of the rest.
-stop : (c : goal.Else-end_stands) →
-    let l = c.loop-numbers in
-    end_stands l.count (drop l.at c.args.book.now) ≡ false
-stop c =
-    let l = c.loop-numbers in
-    let b = c.args.book.now in
-    ap (end_stands l.count) (sym (part_end l.at b)) ∙ sym c.end_stands.ensures ∙ c.if-end_stands.false
+stop : {b : Bool} (n k : ℕ) (ws : List ℕ) → b ≡ end_stands n (take (length ws - k) (drop k ws)) → b ≡ false →
+    end_stands n (drop k ws) ≡ false
+stop n k ws e f = ap (end_stands n) (sym (part_end k ws)) ∙ sym e ∙ f
 
 -- What the row reader answers of the rest.
-row_is : (c : goal.After-read_row) →
-    let s = c.args in
-    let l = c.loop-numbers in
-    let rest = drop l.at s.book.now in
-    c.read_row.result ≡ row_read_of (row_tests (take l.count l.numbers) l.at rest) (row_of s.pace rest)
-row_is c =
-    let s = c.args in
-    let l = c.loop-numbers in
-    c.read_row.ensures ∙ ap (λ (ws : List ℕ). row_read_of (row_tests (take l.count l.numbers) l.at ws) (row_of s.pace ws))
-    (part_end l.at s.book.now)
+row_is : {r : RowRead} (count at pace k : ℕ) (numbers ws : List ℕ) →
+    (let rest = take (length ws - k) (drop k ws) in r ≡ row_read_of (row_tests (take count numbers) at rest) (row_of pace rest)) →
+    r ≡ row_read_of (row_tests (take count numbers) at (drop k ws)) (row_of pace (drop k ws))
+row_is count at pace k numbers ws e =
+    e ∙ ap (λ (rest : List ℕ). row_read_of (row_tests (take count numbers) at rest) (row_of pace rest)) (part_end k ws)
 
--- A whole row passed its tests, and has four words.
-passed : (c : goal.In-Whole-2) →
-    let l = c.loop-numbers in
-    row_tests (take l.count l.numbers) l.at
-    (drop l.at c.args.book.now) ≡ Passed
-passed c = whole_tests _ _ _ (sym c.in-Whole.is ∙ row_is c.before.before)
-
-long : (c : goal.In-Whole-2) →
-    c.loop-numbers.at + 4 ≤ length
-    c.args.book.now
-long c =
-    let l = c.loop-numbers in
-    let b = c.args.book.now in
-    omega (arith, (row_fits (take l.count l.numbers) l.at (drop l.at b) (passed c)).due.there, length-drop l.at b)
-
--- There is room for it.
-room : (c : goal.In-Whole-2) → c.loop-numbers.count < most_rows
-room c = reached_room c.loop-numbers.invariant.1 (passed c)
+-- A row that passed its tests has four words.
+long : (at : ℕ) (numbers ws : List ℕ) → row_tests numbers at (drop at ws) ≡ Passed → at + 4 ≤ length ws
+long at numbers ws h = omega (arith, (row_fits numbers at (drop at ws) h).due.there, length-drop at ws)
 
 pub loop-numbers-init : goal.loop-numbers-init
 unfolding table_of
@@ -79,36 +56,49 @@ returns-then-end_stands c =
     ∙ reached_end l.invariant.1 e
 
 pub offset_bounds-numbers-count : goal.offset_bounds-numbers-count
-offset_bounds-numbers-count c = omega (arith, room c.before)
+offset_bounds-numbers-count c = omega (arith, reached_room c.loop-numbers.invariant.1 (whole_tests _ _ _ (sym c.in-Whole.is ∙
+    row_is c.loop-numbers.count c.loop-numbers.at c.args.pace c.loop-numbers.at c.loop-numbers.numbers c.args.book.now c.read_row.ensures)))
 
 pub bounds-numbers-count : goal.bounds-numbers-count
-bounds-numbers-count c = room c.before
+bounds-numbers-count c =
+    reached_room c.loop-numbers.invariant.1 (whole_tests _ _ _ (sym c.in-Whole.is ∙
+    row_is c.loop-numbers.count c.loop-numbers.at c.args.pace c.loop-numbers.at c.loop-numbers.numbers c.args.book.now c.read_row.ensures))
 
 pub offset_bounds-rows-count : goal.offset_bounds-rows-count
-offset_bounds-rows-count c = omega (arith, room c.before)
+offset_bounds-rows-count c = omega (arith, reached_room c.loop-numbers.invariant.1 (whole_tests _ _ _ (sym c.in-Whole.is ∙
+    row_is c.loop-numbers.count c.loop-numbers.at c.args.pace c.loop-numbers.at c.loop-numbers.numbers c.args.book.now c.read_row.ensures)))
 
 pub bounds-rows-count : goal.bounds-rows-count
-bounds-rows-count c = room c.before
+bounds-rows-count c =
+    reached_room c.loop-numbers.invariant.1 (whole_tests _ _ _ (sym c.in-Whole.is ∙
+    row_is c.loop-numbers.count c.loop-numbers.at c.args.pace c.loop-numbers.at c.loop-numbers.numbers c.args.book.now c.read_row.ensures))
 
 pub returns-in-Refused : goal.returns-in-Refused
 returns-in-Refused c =
     c.refused.ensures ∙ reached_refused c.loop-numbers.invariant.1 c.in-Refused.n c.in-Refused.p
-    (stop c.before.before.before.before.before.before) (refused_tests _ _ _ _ (sym c.in-Refused.is ∙ row_is c.before.before.before.before))
+    (stop c.loop-numbers.count c.loop-numbers.at c.args.book.now c.end_stands.ensures c.if-end_stands.false)
+    (refused_tests _ _ _ _ (sym c.in-Refused.is ∙ row_is c.loop-numbers.count c.loop-numbers.at c.args.pace c.loop-numbers.at
+        c.loop-numbers.numbers c.args.book.now c.read_row.ensures))
 
 pub overflow_add-count : goal.overflow_add-count
-overflow_add-count c = omega (arith, room c.before)
+overflow_add-count c = omega (arith, reached_room c.loop-numbers.invariant.1 (whole_tests _ _ _ (sym c.in-Whole.is ∙
+    row_is c.loop-numbers.count c.loop-numbers.at c.args.pace c.loop-numbers.at c.loop-numbers.numbers c.args.book.now c.read_row.ensures)))
 
 pub overflow_add-at : goal.overflow_add-at
-overflow_add-at c = omega (arith, long c.before)
+overflow_add-at c = omega (arith, long c.loop-numbers.at _ c.args.book.now (whole_tests _ _ _ (sym c.in-Whole.is ∙
+    row_is c.loop-numbers.count c.loop-numbers.at c.args.pace c.loop-numbers.at c.loop-numbers.numbers c.args.book.now c.read_row.ensures)))
 
 pub loop-numbers-smaller : goal.loop-numbers-smaller
-loop-numbers-smaller c = omega (arith, long c.before)
+loop-numbers-smaller c = omega (arith, long c.loop-numbers.at _ c.args.book.now (whole_tests _ _ _ (sym c.in-Whole.is ∙
+    row_is c.loop-numbers.count c.loop-numbers.at c.args.pace c.loop-numbers.at c.loop-numbers.numbers c.args.book.now c.read_row.ensures)))
 
 pub loop-numbers-preserved : goal.loop-numbers-preserved
 loop-numbers-preserved c =
     let l = c.loop-numbers in
     let b = c.args.book.now in (
-      long c.before,
-      rw (whole_row _ _ _ (sym c.in-Whole.is ∙ row_is c.before.before.before), ← drop-drop 4 l.at b)
-          (reached_on l.invariant.1 (stop c.before.before.before.before.before) (passed c.before)),
+      long c.loop-numbers.at _ c.args.book.now (whole_tests _ _ _ (sym c.in-Whole.is ∙
+    row_is c.loop-numbers.count c.loop-numbers.at c.args.pace c.loop-numbers.at c.loop-numbers.numbers c.args.book.now c.read_row.ensures)),
+      rw (whole_row _ _ _ (sym c.in-Whole.is ∙ row_is c.loop-numbers.count c.loop-numbers.at c.args.pace c.loop-numbers.at c.loop-numbers.numbers c.args.book.now c.read_row.ensures), ← drop-drop 4 l.at b)
+          (reached_on l.invariant.1 (stop c.loop-numbers.count c.loop-numbers.at c.args.book.now c.end_stands.ensures c.if-end_stands.false) (whole_tests _ _ _ (sym c.in-Whole.is ∙
+    row_is c.loop-numbers.count c.loop-numbers.at c.args.pace c.loop-numbers.at c.loop-numbers.numbers c.args.book.now c.read_row.ensures))),
     )

@@ -9,11 +9,6 @@ use Rattle.book.proofs.Whole.{book_rows}
 use Rattle.book.proofs.Readings.{head_refused, head_passed}
 use Rattle.book.proofs.read_words.Goals as goal
 
--- The free minute and the pace are in range.
-fits : (c : goal.In-Passed) → HeadFit c.args.book.now
-fits c = head_fits_lem c.args.book.now
-    (sym c.head_tests-head.ensures ∙ c.in-Passed.is)
-
 pub returns-in_default : goal.returns-in_default
 returns-in_default c =
     let h = c.head_tests-head in
@@ -22,7 +17,7 @@ returns-in_default c =
 
 pub read_rows-requires : goal.read_rows-requires
 read_rows-requires c =
-    let f = fits c.before.before.before.before in
+    let f = head_fits_lem c.args.book.now (sym c.head_tests-head.ensures ∙ c.in-Passed.is) in
     let p : c.value_of-pace.result ≡ value (word c.args.book.now 1) =
     c.value_of-pace.ensures ∙ ap value c.word_at-2.ensures in
     (omega (arith, f.pace.there), omega (arith, f.pace.least), omega (arith, f.pace.most))

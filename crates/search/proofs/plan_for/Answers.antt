@@ -1,0 +1,59 @@
+-- `plan_for` meets its contract: from each desk the blocks still to come lead to the order for the bound. Each block takes a row.
+-- Assumes nothing.
+use Prim.Native.Nat.{◌-◌}
+use native.Mathlib.Omega.{arith}
+use Rattle.search.proofs.Planning.{planning_first, planning_torn, planning_next, searched_over, searched_kept}
+use Rattle.search.proofs.plan_for.Goals as goal
+
+pub start-begin-requires : goal.start-begin-requires
+start-begin-requires c = ((c.args.minutes.now, c.args.due.now, c.requires.tables), c.requires.le_n.1)
+
+pub run_on-s-requires : goal.run_on-s-requires
+run_on-s-requires c =
+    let a = c.args in record { limits = c.requires.limits; tables = c.requires.tables; by_index = ((_, c.start-begin.ensures.0 a.minutes.now a.due.now c.requires.tables), c.requires.le_n.2) }
+
+pub loop-s-init : goal.loop-s-init
+loop-s-init c =
+    let a = c.args in
+    let b = c.start-begin.ensures in
+    planning_first _ _ _ c.requires.limits _ _ _ _ _ _ b.1 b.2 (c.run_on-s.ensures _ (b.0 a.minutes.now a.due.now c.requires.tables))
+
+pub returns-then-bound-s : goal.returns-then-bound-s
+returns-then-bound-s c = searched_over _ _ _ c.requires.limits _ _ _ _ c.loop-s.invariant
+    c.if-bound-s.true
+
+pub returns-then-s-n : goal.returns-then-s-n
+returns-then-s-n c =
+    searched_kept _ _ _ c.requires.limits _ _ _ _ c.loop-s.invariant c.if-bound-s.false c.requires.tables.few
+    c.if-s-n.true
+
+pub next_block-b-requires : goal.next_block-b-requires
+next_block-b-requires c =
+    let g = c.loop-s.invariant in
+    let h = g.kept c.if-bound-s.false in record { limits = c.requires.limits; tables = c.requires.tables; by_index = (
+          (
+            h.rest,
+            h.way.sits,
+            planning_torn _ _ _ c.requires.limits _ _ _ _ g c.if-bound-s.false c.if-s-n.false,
+          ),
+          g.places,
+        ) }
+
+pub loop-s-smaller : goal.loop-s-smaller
+loop-s-smaller c =
+    let g = c.loop-s.invariant in
+    let low = c.if-bound-s.false in
+    let h = g.kept low in
+    omega (
+      arith,
+      (c.next_block-b.ensures _ h.way.sits
+          (planning_torn _ _ _ c.requires.limits _ _ _ _ g low c.if-s-n.false)).counts,
+    )
+
+pub loop-s-preserved : goal.loop-s-preserved
+loop-s-preserved c =
+    let g = c.loop-s.invariant in
+    let low = c.if-bound-s.false in
+    let more = c.if-s-n.false in
+    planning_next _ _ _ c.requires.limits _ _ _ _ g low more _ _
+    (c.next_block-b.ensures _ (g.kept low).way.sits (planning_torn _ _ _ c.requires.limits _ _ _ _ g low more))
