@@ -1,3 +1,2 @@
 pub mod Column
 pub mod Laid
-pub mod Lent

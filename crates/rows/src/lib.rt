@@ -1,6 +1,7 @@
 // The accepted rows of a table, lent as a slice of records, and taken apart into columns of numbers.
 // The functions over `&[Row]` are few and thin. Callers use `columns_in`, whose parameters are plain.
 #![tactic(auto)]
+
 ghost use Rattle.std.specs.Prelude.{◌≡◌, ◌≤◌, ◌<◌, length, get_or};
 ghost use Rattle.schedule.specs.Limits.{most_rows};
 ghost use Rattle.schedule.specs.Rows.{no_row};
