@@ -259,7 +259,9 @@ class Function:
                 text = before + head + tail
                 again = True
                 break
-        return PATH_C.sub(lambda m: self.path(m.group(2).split(".")[1:]) if m.group(2) else m.group(0), text)
+        text = PATH_C.sub(lambda m: self.path(m.group(2).split(".")[1:]) if m.group(2) else m.group(0), text)
+        # a test on `!x` says today what x is
+        return re.sub(r"\bnot-(?:true|false) _ (c(?:\.[\w-]+)+)", r"\1", text)
 
     @staticmethod
     def let_end(text):
