@@ -234,6 +234,11 @@ class Function:
             return clause(self.names_of(callee, "ensures"), comps[2:]) is None
         return len(comps) == 1 and False
 
+    def of_step(self, comps):
+        """The path is a whole step of the code: a call, whose clauses have names today."""
+        comps = [c for c in comps if c != "before"]
+        return len(comps) == 1 and norm(comps[0]) in self.callee
+
     def body(self, text):
         """A term with today's names. Names bound to places are inlined."""
         again = True
@@ -241,9 +246,10 @@ class Function:
             again = False
             for m in re.finditer(r"let ([\w']+) = (c(?:\.[\w'-]+)*) in\b\s*", text):
                 comps = m.group(2).split(".")[1:]
-                if not self.partial(comps):
-                    continue
                 name = m.group(1)
+                used = re.search(r"(?<![\w.])" + re.escape(name) + r"\.(?:auto|new|ensures|requires)\.[01]\b", text[m.end():])
+                if not self.partial(comps) and not (used and self.of_step(comps)):
+                    continue
                 before, after = text[: m.start()], text[m.end():]
                 stop = re.search(r"\blet " + re.escape(name) + r" (?:=|:)", after)
                 head, tail = (after, "") if not stop else (after[: stop.start()], after[stop.start():])
