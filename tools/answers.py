@@ -284,7 +284,8 @@ class Function:
     @staticmethod
     def inline(text, name, comps):
         p = re.compile(r"(?<![\w.'₀-])" + re.escape(name) + r"((?:\.[\w'-]+)*)(?![\w'₀-])")
-        return p.sub(lambda m: ".".join(["c"] + comps) + m.group(1), text)
+        place = all(c == "before" for c in comps)
+        return p.sub(lambda m: ".".join(["c"] + comps) + m.group(1) if m.group(1) or place else m.group(0), text)
 
     def signature(self, text):
         def place(m):
