@@ -234,6 +234,11 @@ class Function:
             return clause(self.names_of(callee, "ensures"), comps[2:]) is None
         return len(comps) == 1 and False
 
+    def of_step(self, comps):
+        """The path is a whole step of the code: a call, whose clauses have names today."""
+        comps = [c for c in comps if c != "before"]
+        return len(comps) == 1 and norm(comps[0]) in self.callee
+
     def body(self, text):
         """A term with today's names. Names bound to places are inlined."""
         again = True
@@ -241,9 +246,10 @@ class Function:
             again = False
             for m in re.finditer(r"let ([\w']+) = (c(?:\.[\w'-]+)*) in\b\s*", text):
                 comps = m.group(2).split(".")[1:]
-                if not self.partial(comps):
-                    continue
                 name = m.group(1)
+                used = re.search(r"(?<![\w.])" + re.escape(name) + r"\.(?:auto|new|ensures|requires)\.[01]\b", text[m.end():])
+                if not self.partial(comps) and not (used and self.of_step(comps)):
+                    continue
                 before, after = text[: m.start()], text[m.end():]
                 stop = re.search(r"\blet " + re.escape(name) + r" (?:=|:)", after)
                 head, tail = (after, "") if not stop else (after[: stop.start()], after[stop.start():])
@@ -259,7 +265,9 @@ class Function:
                 text = before + head + tail
                 again = True
                 break
-        return PATH_C.sub(lambda m: self.path(m.group(2).split(".")[1:]) if m.group(2) else m.group(0), text)
+        text = PATH_C.sub(lambda m: self.path(m.group(2).split(".")[1:]) if m.group(2) else m.group(0), text)
+        # a test on `!x` says today what x is
+        return re.sub(r"\bnot-(?:true|false) _ (c(?:\.[\w-]+)+)", r"\1", text)
 
     @staticmethod
     def let_end(text):
@@ -276,7 +284,8 @@ class Function:
     @staticmethod
     def inline(text, name, comps):
         p = re.compile(r"(?<![\w.'₀-])" + re.escape(name) + r"((?:\.[\w'-]+)*)(?![\w'₀-])")
-        return p.sub(lambda m: ".".join(["c"] + comps) + m.group(1), text)
+        place = all(c == "before" for c in comps)
+        return p.sub(lambda m: ".".join(["c"] + comps) + m.group(1) if m.group(1) or place else m.group(0), text)
 
     def signature(self, text):
         def place(m):

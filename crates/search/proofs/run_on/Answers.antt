@@ -42,7 +42,7 @@ returns-then-not-decided_by c = λ all g.
     let o = c.loop-desk.invariant all g in
     let q = c.picks-p.ensures _ _ _ c.requires.tables o.sits.stands o.sits.late in
     let d = deciding _ _ _ c.requires.tables _ _ o.sits _ _ q.0 q.1 _ c.decided_by.ensures c.if-i-eq0.false in
-    ran_torn _ _ _ c.requires.limits all _ _ _ _ o (sym d ∙ not-true _ c.if-not-decided_by.true) _
+    ran_torn _ _ _ c.requires.limits all _ _ _ _ o (sym d ∙ c.if-not-decided_by.true) _
 
 pub overflow_cast-order : goal.overflow_cast-order
 overflow_cast-order c =
@@ -105,4 +105,4 @@ loop-desk-preserved c = λ all g.
     let m = first_mem _ _ _ c.requires.tables _ _ o.sits _ q.0 z in
     let d = deciding _ _ _ c.requires.tables _ _ o.sits _ _ q.0 q.1 _ c.decided_by.ensures z in
     toward_next _ _ _ c.requires.limits all _ _ _ _ o _ q.0 m _ (c.take-m.ensures _ _ o.sits m)
-    (sym d ∙ not-false _ c.if-not-decided_by.false) (room _ _ _ c.requires.tables _ _ o.sits _ m)
+    (sym d ∙ c.if-not-decided_by.false) (room _ _ _ c.requires.tables _ _ o.sits _ m)

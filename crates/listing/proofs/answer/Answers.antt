@@ -5,20 +5,16 @@ use mathlib.Core.Path.{sym, ap}
 use borrow.Author.Tests.{le-leb, lt-leb}
 use Rattle.listing.specs.declared.Planned.TheVariants.{Kept, Unkept}
 use Rattle.listing.specs.PlanFor.{answer_of}
-use Rattle.listing.proofs.answer.Statement.{statement}
-use Rattle.listing.proofs.answer.Tie as tie
+use Rattle.listing.proofs.answer.Goals as goal
 
-returns : tie.Need-returns
+pub returns-then-desk-bound : goal.returns-then-desk-bound
+returns-then-desk-bound c =
+    let a = c.args in
+    unfold answer_of in ap (λ (b : Bool). cond b (Kept a.desk.minute a.desk.worst) Unkept)
+    (sym (le-leb a.desk.worst a.bound c.if-desk-bound.true))
+
+pub returns : goal.returns
 returns c =
-    let a = c.before.before.args in
+    let a = c.args in
     unfold answer_of in ap (λ (b : Bool). cond b (Kept a.desk.minute a.desk.worst) Unkept)
-    (sym (le-leb a.desk.worst a.bound c.if1.true))
-
-returns-2 : tie.Need-returns-2
-returns-2 c =
-    let a = c.before.before.args in
-    unfold answer_of in ap (λ (b : Bool). cond b (Kept a.desk.minute a.desk.worst) Unkept)
-    (sym (lt-leb a.desk.worst a.bound c.if1.false))
-
-pub answer-spec : {M : Type 1} → statement M
-answer-spec = tie.close (tie.spec returns returns-2)
+    (sym (lt-leb a.desk.worst a.bound c.if-desk-bound.false))

@@ -1,0 +1,26 @@
+-- `order_by_arrival` meets its contract: the one plan, where its worst lateness is within the bound.
+-- Assumes nothing.
+use Rattle.schedule.specs.Columns.{columns}
+use Rattle.arrival.proofs.Arrived.{arrival_unkept, arrival_given}
+use Prim.Native.Nat.{◌-◌}
+use Rattle.arrival.proofs.order_by_arrival.Goals as goal
+
+pub returns-then-bound-desk : goal.returns-then-bound-desk
+returns-then-bound-desk c =
+    let a = c.args in
+    let job = columns a.release.now a.minutes.now a.due.now in
+    arrival_unkept job a.n a.free c.requires.le_n.0 c.arrive-plan.result
+    c.arrive-plan.ensures c.requires.limits a.bound a.out.now c.if-bound-desk.true
+
+pub write_rows-requires : goal.write_rows-requires
+write_rows-requires c =
+    (c.requires.le_n.1, c.requires.le_n.3, c.arrive-plan.ensures.places)
+
+pub returns : goal.returns
+returns c =
+    let a = c.args in
+    let job = columns a.release.now a.minutes.now a.due.now in
+    arrival_given job a.n a.free c.requires.le_n.0
+    c.arrive-plan.result
+    c.arrive-plan.ensures c.requires.limits a.bound a.out.now
+    c.if-bound-desk.false _ c.write_rows.ensures
