@@ -1,0 +1,62 @@
+-- `start` meets its contract: no desk, then the tests, then the move.
+-- Assumes nothing.
+use native.Mathlib.Omega.{arith}
+use Prim.Native.Nat.{◌<◌}
+use mathlib.Core.Bool.{true}
+use mathlib.Core.Path.{◌≡◌, sym, ap, ◌∙◌}
+use Rattle.schedule.specs.declared.Desk.{Desk}
+use Rattle.schedule.specs.Offset.{lowered}
+use Rattle.schedule.proofs.SignedWords.{lowered_word}
+use Rattle.outcomes.specs.Planning.{gives}
+use Rattle.running.specs.Words.{is_desk, moved_words}
+use Rattle.running.proofs.Fits.{desk_says}
+use Rattle.running.proofs.Moves.{start_fits}
+use Rattle.desk_start.specs.declared.StartAnswer.TheVariants as start-answer
+use Rattle.desk_start.proofs.StartLaws.{start_none, start_no, taken, start_moved}
+use Rattle.desk_start.proofs.start.Goals as goal
+
+abbrev entry : goal.In_default → goal.Start
+entry c = c.before.before.before.before.before.before.before.before
+
+pub returns-then-not-is_desk : goal.returns-then-not-is_desk
+returns-then-not-is_desk c = sym (start_none _ _ _ (sym c.is_desk.ensures ∙ c.if-not-is_desk.true))
+
+pub start_tests-test-requires : goal.start_tests-test-requires
+start_tests-test-requires c = (sym c.is_desk.ensures ∙ c.if-not-is_desk.false)
+
+pub returns-in-Refused : goal.returns-in-Refused
+returns-in-Refused c =
+    sym (start_no _ _ _ (sym c.is_desk.ensures ∙ c.if-not-is_desk.false) _ _ (sym c.start_tests-test.ensures ∙ c.in-Refused.is))
+
+pub bounds-desk-2 : goal.bounds-desk-2
+bounds-desk-2 c = omega (arith, (start_fits _ ((desk_says _).0 (sym c.is_desk.ensures ∙ c.if-not-is_desk.false)) _ _ (sym c.start_tests-test.ensures ∙ c.in_default.is)))
+
+pub bounds-desk-i : goal.bounds-desk-i
+bounds-desk-i c = omega (arith, (start_fits _ ((desk_says _).0 (sym c.is_desk.ensures ∙ c.if-not-is_desk.false)) _ _ (sym c.start_tests-test.ensures ∙ c.in_default.is)))
+
+pub bounds-desk-i-2 : goal.bounds-desk-i-2
+bounds-desk-i-2 c = omega (arith, (start_fits _ ((desk_says _).0 (sym c.is_desk.ensures ∙ c.if-not-is_desk.false)) _ _ (sym c.start_tests-test.ensures ∙ c.in_default.is)))
+
+pub bounds-desk-i-3 : goal.bounds-desk-i-3
+bounds-desk-i-3 c = omega (arith, (start_fits _ ((desk_says _).0 (sym c.is_desk.ensures ∙ c.if-not-is_desk.false)) _ _ (sym c.start_tests-test.ensures ∙ c.in_default.is)))
+
+pub take-done-requires : goal.take-done-requires
+take-done-requires c =
+    let f = (start_fits _ ((desk_says _).0 (sym c.is_desk.ensures ∙ c.if-not-is_desk.false)) _ _ (sym c.start_tests-test.ensures ∙ c.in_default.is)) in
+    (omega (arith, f), omega (arith, f), omega (arith, f), omega (arith, f))
+
+pub store-requires : goal.store-requires
+store-requires c = let f = (start_fits _ ((desk_says _).0 (sym c.is_desk.ensures ∙ c.if-not-is_desk.false)) _ _ (sym c.start_tests-test.ensures ∙ c.in_default.is)) in (f.1, f.0)
+
+pub returns : goal.returns
+returns c =
+    let t = c.take-done in
+    let s = (entry c.before.before.before.before.before.before.before.before.before.before).args in
+    let after = t.ensures ∙ taken s.desk.now s.row s.minute (sym c.is_desk.ensures ∙ c.if-not-is_desk.false) (start_fits _ ((desk_says _).0 (sym c.is_desk.ensures ∙ c.if-not-is_desk.false)) _ _ (sym c.start_tests-test.ensures ∙ c.in_default.is)) in
+    let word = c.slice_known-2-1.given 2 in
+    let w : t.result.worst < 4294967296 = omega (arith, ap (λ (d : Desk). d.worst) after, (start_fits _ ((desk_says _).0 (sym c.is_desk.ensures ∙ c.if-not-is_desk.false)) _ _ (sym c.start_tests-test.ensures ∙ c.in_default.is)), word) in
+    let z = lowered_word t.result.worst c.lower.result w c.lower.ensures ∙ ap (λ (d : Desk). lowered d.worst) after in
+    let v = c.store.ensures ∙
+    ap (λ (d : Desk). moved_words s.desk.now s.row d.minute d.worst) after in
+    (λ x. gives (start-answer.Moved (after x).minute (z x)) (v x)) ∙
+    start_moved s.desk.now s.row s.minute (sym c.is_desk.ensures ∙ c.if-not-is_desk.false) (sym c.start_tests-test.ensures ∙ c.in_default.is)

@@ -1,0 +1,12 @@
+-- `put_two` meets its contract: its parts, one after another.
+-- Assumes nothing.
+use native.Mathlib.Omega.{arith}
+use mathlib.Core.Path.{refl}
+use Rattle.lines.proofs.Adding.{then_added, same_added}
+use Rattle.lines.proofs.put_two.Goals as goal
+
+pub returns : goal.returns
+returns c =
+    same_added (omega arith) refl
+    (then_added (then_added c.put_field-end.ensures c.put_field-end-2.ensures)
+    c.put.ensures)
