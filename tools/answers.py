@@ -165,7 +165,7 @@ class Function:
         self.places = {norm(p[0]): n for p, n in zip(data["places"], data["places_by_name"])}
         own = all_functions.get((crate, name), {"requires": [], "ensures": []})
         self.requires, self.ensures = own["requires"], own["ensures"]
-        self.unknown = set()
+        self.unknown, self.helpers = set(), {}
 
     def names_of(self, callee, kind):
         crate, _, fn = callee.partition("::")
@@ -184,6 +184,8 @@ class Function:
         if head == "requires":
             rest = clause(self.requires, comps[1:])
             return ".".join(["c", "requires"] + (rest if rest is not None else ["ALL"]))
+        if comps[:2] == ["args", "result"]:
+            comps = ["args", "res"] + comps[2:]
         if head in ("args", "ranges", "lifetimes", "type_inv", "utf8", "well_formed"):
             return ".".join(["c"] + comps)
         step = norm(head)
@@ -266,6 +268,9 @@ class Function:
                 again = True
                 break
         text = PATH_C.sub(lambda m: self.path(m.group(2).split(".")[1:]) if m.group(2) else m.group(0), text)
+        for name, term in self.helpers.items():
+            text = re.sub(r"(\(?)(?<![\w.'-])" + re.escape(name) + r" c(?:\.before)*(?![\w.'-])(\)?)",
+                lambda m: "(" + term + ")" if m.group(1) and m.group(2) else m.group(1) + "(" + term + ")" + m.group(2), text)
         # a test on `!x` says today what x is
         return re.sub(r"\bnot-(?:true|false) _ (c(?:\.[\w-]+)+)", r"\1", text)
 
@@ -421,7 +426,11 @@ def turn(folder, key, data, crate, fn, all_functions, old):
             # `let in` of one line stays as it was written
             answers.append("\n".join(comments + [f"pub {shown} : goal.{shown}"] + unfold + [f"{shown} c =" + (told if told[:1] in " \n" else " " + told)]))
             continue
-        # a helper
+        # a helper over a place of the code: it stands where it was cited
+        h = re.search(r"^" + re.escape(name) + r" c =(.*)$", joined, re.S | re.M)
+        if h and re.search(r":\s*\(c : tie\.", joined) and len(data["places"]) > 1:
+            f.helpers[name] = f.body(h.group(1)).strip()
+            continue
         sig_end = next((i for i, l in enumerate(lines) if re.match(re.escape(name) + r"(?: |$)", l) and i > 0), len(lines))
         sig = f.signature("\n".join(lines[:sig_end]))
         rest = f.body("\n".join(lines[sig_end:]))
