@@ -268,9 +268,14 @@ class Function:
                 again = True
                 break
         text = PATH_C.sub(lambda m: self.path(m.group(2).split(".")[1:]) if m.group(2) else m.group(0), text)
+        for m in re.finditer(r"let ([\w']+) = c\.args in", text):
+            text = re.sub(r"(?<![\w.])" + re.escape(m.group(1)) + r"\.result\b", m.group(1) + ".res", text)
+        for m in re.finditer(r"let ([\w']+) = c\.(?!args\b)[\w-]+ in", text):
+            text = re.sub(r"(?<![\w.])" + re.escape(m.group(1)) + r"\.res(?!\.now)\b", m.group(1) + ".result", text)
         for name, term in self.helpers.items():
             text = re.sub(r"(\(?)(?<![\w.'-])" + re.escape(name) + r" c(?:\.before)*(?![\w.'-])(\)?)",
                 lambda m: "(" + term + ")" if m.group(1) and m.group(2) else m.group(1) + "(" + term + ")" + m.group(2), text)
+        text = re.sub(r"omega \(arith, \(omega \(arith, ([^\n]*?)\)\)\)", r"omega (arith, \1)", text)
         # a test on `!x` says today what x is
         return re.sub(r"\bnot-(?:true|false) _ (c(?:\.[\w-]+)+)", r"\1", text)
 
@@ -424,7 +429,8 @@ def turn(folder, key, data, crate, fn, all_functions, old):
                     told = by_clause(told, f.names_of(callee, "requires"))
             shown = new or name
             # `let in` of one line stays as it was written
-            answers.append("\n".join(comments + [f"pub {shown} : goal.{shown}"] + unfold + [f"{shown} c =" + (told if told[:1] in " \n" else " " + told)]))
+            given = " ".join(w for w in b.group(1).split() if w != "κs")
+            answers.append("\n".join(comments + [f"pub {shown} : goal.{shown}"] + unfold + [f"{shown} {given} =" + (told if told[:1] in " \n" else " " + told)]))
             continue
         # a helper over a place of the code: it stands where it was cited
         h = re.search(r"^" + re.escape(name) + r" c =(.*)$", joined, re.S | re.M)
