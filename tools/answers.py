@@ -399,7 +399,7 @@ def turn(folder, key, data, crate, fn, all_functions, old):
             new = None
             for cand in (name, re.search(r":\s+tie\.Need-([\w-]+)", joined).group(1)):
                 new = f.goals.get(norm(cand)) or new
-            b = re.search(r"^" + re.escape(name) + r" ([^=]*?) =(.*)$", joined, re.S | re.M)
+            b = re.search(r"^" + re.escape(name) + r" ((?!:)[^=\n]*?) =(.*)$", joined, re.S | re.M)
             if not b:
                 unmatched.append("no clause " + name)
                 answers.append("\n".join(comments + lines))

@@ -13,13 +13,13 @@ pub loop-k-init : goal.loop-k-init
 loop-k-init c = (omega arith, filled_first row_places (from 1) _ _ c.requires.4)
 
 pub overflow_add-column : goal.overflow_add-column
-overflow_add-column c = record { fits = omega (arith, (omega (arith, c.place_of-row.ensures, c.requires.3 (c.loop-k.k + 1)))) }
+overflow_add-column c = record { fits = omega (arith, c.place_of-row.ensures, c.requires.3 (c.loop-k.k + 1)) }
 
 pub offset_bounds-desk-before : goal.offset_bounds-desk-before
-offset_bounds-desk-before c = record { fits = omega (arith, (omega (arith, c.place_of-row.ensures, c.requires.3 (c.loop-k.k + 1)))) }
+offset_bounds-desk-before c = record { fits = omega (arith, c.place_of-row.ensures, c.requires.3 (c.loop-k.k + 1)) }
 
 pub bounds-desk-before : goal.bounds-desk-before
-bounds-desk-before c = omega (arith, (omega (arith, c.place_of-row.ensures, c.requires.3 (c.loop-k.k + 1))))
+bounds-desk-before c = omega (arith, c.place_of-row.ensures, c.requires.3 (c.loop-k.k + 1))
 
 pub loop-k-preserved : goal.loop-k-preserved
 loop-k-preserved c =
