@@ -6,22 +6,22 @@ use Rattle.row_calls.proofs.Places.{place_refused, place_unlisted, place_listed}
 use Rattle.row_calls.proofs.place_among.Goals as goal
 
 pub returns-in-Refused : goal.returns-in-Refused
-returns-in-Refused : tie.Need-returns returns c x e f =
+returns-in-Refused c x e f =
     place_refused x c.in-Refused.n c.in-Refused.p c.args.row (sym e ∙ c.in-Refused.is)
 
 pub returns-then-k-eq0 : goal.returns-then-k-eq0
-returns-then-k-eq0 : tie.Need-returns-2 returns-2 c x e f =
+returns-then-k-eq0 c x e f =
     let a = c.args in
     place_unlisted x a.count f (sym e ∙ c.in_default.is) a.row (rw (eq-eqb _ _ c.if-k-eq0.true))
 
 pub returns-then-count-k : goal.returns-then-count-k
-returns-then-count-k : tie.Need-returns-3 returns-3 c x e f =
+returns-then-count-k c x e f =
     let a = c.args in
     place_unlisted x a.count f (sym e ∙ c.in_default.is) a.row
     (rw (ne_eqb _ _ c.if-k-eq0.false, lt-ltb _ _ c.if-count-k.true))
 
 pub returns : goal.returns
-returns : tie.Need-returns-4 returns-4 c x e f =
+returns c x e f =
     let a = c.args in
     place_listed x a.count f (sym e ∙ c.in_default.is) a.row
     (rw (ne_eqb _ _ c.if-k-eq0.false, le-ltb _ _ c.if-count-k.false))

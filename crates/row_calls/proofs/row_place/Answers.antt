@@ -4,7 +4,7 @@ use Rattle.readers.specs.Reads.{without_opening, read_by}
 use Rattle.row_calls.proofs.row_place.Goals as goal
 
 pub returns : goal.returns
-returns : tie.Need-returns returns c =
+returns c =
     let a = c.args in
     let g = c.read-given.ensures in
     c.place_among.ensures (read_by (without_opening a.profile) a.book.now) g.outcome g.count

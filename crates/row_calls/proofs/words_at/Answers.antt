@@ -7,22 +7,22 @@ use Rattle.row_calls.proofs.Places.{words_found, words_refused}
 use Rattle.row_calls.proofs.words_at.Goals as goal
 
 pub overflow_add-end : goal.overflow_add-end
-overflow_add-end : tie.Need-overflow-add-end add-end c = omega (arith, (c.requires c.in-At.start c.in-At.is))
+overflow_add-end c = omega (arith, (c.requires c.in-At.start c.in-At.is))
 
 pub offset_bounds-book-start : goal.offset_bounds-book-start
-offset_bounds-book-start : tie.Need-overflow-mul-result mul-result c = omega (arith, (c.requires c.in-At.start c.in-At.is))
+offset_bounds-book-start c = omega (arith, (c.requires c.in-At.start c.in-At.is))
 
 pub slice_bounds-result-end : goal.slice_bounds-result-end
-slice_bounds-result-end : tie.Need-slice-bounds-result-end part-result-end c = omega (arith, (c.requires c.in-At.start c.in-At.is))
+slice_bounds-result-end c = omega (arith, (c.requires c.in-At.start c.in-At.is))
 
 pub returns-in-At : goal.returns-in-At
-returns-in-At : tie.Need-returns returns c =
+returns-in-At c =
     let s = c.args in
     let a = c.in-At.start in
     let four : a + 4 - a ≡ 4 = omega arith in
     rw four (words_found s.book.now s.found a c.in-At.is)
 
 pub returns-in-Refused : goal.returns-in-Refused
-returns-in-Refused : tie.Need-returns-2 returns-2 c =
+returns-in-Refused c =
     let s = c.args in
     words_refused s.book.now s.found c.in-Refused.field-0 c.in-Refused.field-1 c.in-Refused.is
