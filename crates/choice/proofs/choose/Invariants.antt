@@ -1,0 +1,15 @@
+-- `choose` meets its contract. The invariant: what is taken so far, with a bound one below it, and cursors that are not past that bound's
+-- plans. The measure is the bound.
+-- Assumes nothing.
+use mathlib.Core.Path.{◌∙◌}
+use lib.ListN.{length}
+use Rattle.choice.specs.Lists.{Behind}
+use Rattle.choice.proofs.Choosing.{Standing}
+use Rattle.choice.proofs.choose.Given as goal
+
+abbrev pub invariant-loop-late : goal.invariant-loop-late
+invariant-loop-late l =
+    Standing l.plans l.fronts l.closings l.limit l.best l.bound × Behind l.plans l.fronts (length l.closings) l.bound l.cursors
+
+abbrev pub decreases-loop-late : goal.decreases-loop-late
+decreases-loop-late l = l.bound
