@@ -101,7 +101,7 @@ abbrev pub line : ℕ → ℤ → List ℕ → Line
 line e y ns = record { end = e; late = y; numbers = ns }
 
 -- Two functions that give one list over a list agree at each of its elements.
-pub agree : {A B : Type 0} (f g : A → B) {l : List A} → map f l ≡ map g l → {a : A} → Memᴰ a l → f a ≡ g a
+pub agree : {A B : Type 0} (f g : A → B) {a : A} {l : List A} → map f l ≡ map g l → Memᴰ a l → f a ≡ g a
 agree f g e (Memᴰ.head p) = ap f p ∙ head-eq_of_cons-eq e ∙ ap g (sym p)
 agree f g e (Memᴰ.tail m) = agree f g (tail-eq_of_cons-eq e) m
 

@@ -1,0 +1,28 @@
+-- `words_at` meets its contract: the four words at the place, or no word.
+-- Assumes nothing.
+use Prim.Native.Nat.{◌+◌, ◌-◌, ◌≤◌}
+use native.Mathlib.Omega.{arith}
+use mathlib.Core.Path.{◌≡◌}
+use Rattle.row_calls.proofs.Places.{words_found, words_refused}
+use Rattle.row_calls.proofs.words_at.Goals as goal
+
+pub overflow_add-end : goal.overflow_add-end
+overflow_add-end c = omega (arith, (c.requires c.in-At.start c.in-At.is))
+
+pub offset_bounds-book-start : goal.offset_bounds-book-start
+offset_bounds-book-start c = omega (arith, (c.requires c.in-At.start c.in-At.is))
+
+pub slice_bounds-result-end : goal.slice_bounds-result-end
+slice_bounds-result-end c = omega (arith, (c.requires c.in-At.start c.in-At.is))
+
+pub returns-in-At : goal.returns-in-At
+returns-in-At c =
+    let s = c.args in
+    let a = c.in-At.start in
+    let four : a + 4 - a ≡ 4 = omega arith in
+    rw four (words_found s.book.now s.found a c.in-At.is)
+
+pub returns-in-Refused : goal.returns-in-Refused
+returns-in-Refused c =
+    let s = c.args in
+    words_refused s.book.now s.found c.in-Refused.field-0 c.in-Refused.field-1 c.in-Refused.is
