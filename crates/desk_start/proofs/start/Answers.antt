@@ -1,22 +1,28 @@
 -- `start` meets its contract: no desk, then the tests, then the move.
 -- Assumes nothing.
 use native.Mathlib.Omega.{arith}
-use Prim.Native.Nat.{◌<◌}
-use mathlib.Core.Bool.{true}
+use Prim.Native.Nat.{ℕ, ◌<◌}
+use mathlib.Core.Bool.{Bool, true}
+use mathlib.Core.List.{List}
 use mathlib.Core.Path.{◌≡◌, sym, ap, ◌∙◌}
 use Rattle.schedule.specs.declared.Desk.{Desk}
 use Rattle.schedule.specs.Offset.{lowered}
 use Rattle.schedule.proofs.SignedWords.{lowered_word}
+use Rattle.refusals.specs.declared.Tested.{Tested}
+use Rattle.refusals.specs.declared.Tested.TheVariants.{Passed}
 use Rattle.outcomes.specs.Planning.{gives}
-use Rattle.running.specs.Words.{is_desk, moved_words}
+use Rattle.running.specs.Running.{start_tests}
+use Rattle.running.specs.Words.{is_desk, moved_words, running}
 use Rattle.running.proofs.Fits.{desk_says}
-use Rattle.running.proofs.Moves.{start_fits}
+use Rattle.running.proofs.Moves.{StartFits, start_fits}
 use Rattle.desk_start.specs.declared.StartAnswer.TheVariants as start-answer
 use Rattle.desk_start.proofs.StartLaws.{start_none, start_no, taken, start_moved}
 use Rattle.desk_start.proofs.start.Goals as goal
 
-abbrev entry : goal.In_default → goal.Start
-entry c = c.before.before.before.before.before.before.before.before
+-- A start that passed its tests fits.
+fits : {b : Bool} {t : Tested} (ws : List ℕ) (row minute : ℕ) → b ≡ is_desk ws → b ≡ true → t ≡ start_tests (running ws) row minute →
+    t ≡ Passed → StartFits ws row minute
+fits ws row minute e h t p = start_fits _ ((desk_says _).0 (sym e ∙ h)) _ _ (sym t ∙ p)
 
 pub returns-then-not-is_desk : goal.returns-then-not-is_desk
 returns-then-not-is_desk c = sym (start_none _ _ _ (sym c.is_desk.ensures ∙ c.if-not-is_desk.true))
@@ -29,32 +35,32 @@ returns-in-Refused c =
     sym (start_no _ _ _ (sym c.is_desk.ensures ∙ c.if-not-is_desk.false) _ _ (sym c.start_tests-test.ensures ∙ c.in-Refused.is))
 
 pub bounds-desk-2 : goal.bounds-desk-2
-bounds-desk-2 c = omega (arith, (start_fits _ ((desk_says _).0 (sym c.is_desk.ensures ∙ c.if-not-is_desk.false)) _ _ (sym c.start_tests-test.ensures ∙ c.in_default.is)))
+bounds-desk-2 c = omega (arith, (fits _ _ _ c.is_desk.ensures c.if-not-is_desk.false c.start_tests-test.ensures c.in_default.is))
 
 pub bounds-desk-i : goal.bounds-desk-i
-bounds-desk-i c = omega (arith, (start_fits _ ((desk_says _).0 (sym c.is_desk.ensures ∙ c.if-not-is_desk.false)) _ _ (sym c.start_tests-test.ensures ∙ c.in_default.is)))
+bounds-desk-i c = omega (arith, (fits _ _ _ c.is_desk.ensures c.if-not-is_desk.false c.start_tests-test.ensures c.in_default.is))
 
 pub bounds-desk-i-2 : goal.bounds-desk-i-2
-bounds-desk-i-2 c = omega (arith, (start_fits _ ((desk_says _).0 (sym c.is_desk.ensures ∙ c.if-not-is_desk.false)) _ _ (sym c.start_tests-test.ensures ∙ c.in_default.is)))
+bounds-desk-i-2 c = omega (arith, (fits _ _ _ c.is_desk.ensures c.if-not-is_desk.false c.start_tests-test.ensures c.in_default.is))
 
 pub bounds-desk-i-3 : goal.bounds-desk-i-3
-bounds-desk-i-3 c = omega (arith, (start_fits _ ((desk_says _).0 (sym c.is_desk.ensures ∙ c.if-not-is_desk.false)) _ _ (sym c.start_tests-test.ensures ∙ c.in_default.is)))
+bounds-desk-i-3 c = omega (arith, (fits _ _ _ c.is_desk.ensures c.if-not-is_desk.false c.start_tests-test.ensures c.in_default.is))
 
 pub take-done-requires : goal.take-done-requires
 take-done-requires c =
-    let f = (start_fits _ ((desk_says _).0 (sym c.is_desk.ensures ∙ c.if-not-is_desk.false)) _ _ (sym c.start_tests-test.ensures ∙ c.in_default.is)) in
+    let f = (fits _ _ _ c.is_desk.ensures c.if-not-is_desk.false c.start_tests-test.ensures c.in_default.is) in
     (omega (arith, f), omega (arith, f), omega (arith, f), omega (arith, f))
 
 pub store-requires : goal.store-requires
-store-requires c = let f = (start_fits _ ((desk_says _).0 (sym c.is_desk.ensures ∙ c.if-not-is_desk.false)) _ _ (sym c.start_tests-test.ensures ∙ c.in_default.is)) in (f.1, f.0)
+store-requires c = let f = (fits _ _ _ c.is_desk.ensures c.if-not-is_desk.false c.start_tests-test.ensures c.in_default.is) in (f.1, f.0)
 
 pub returns : goal.returns
 returns c =
     let t = c.take-done in
-    let s = (entry c.before.before.before.before.before.before.before.before.before.before).args in
-    let after = t.ensures ∙ taken s.desk.now s.row s.minute (sym c.is_desk.ensures ∙ c.if-not-is_desk.false) (start_fits _ ((desk_says _).0 (sym c.is_desk.ensures ∙ c.if-not-is_desk.false)) _ _ (sym c.start_tests-test.ensures ∙ c.in_default.is)) in
-    let word = c.slice_known-2-1.given 2 in
-    let w : t.result.worst < 4294967296 = omega (arith, ap (λ (d : Desk). d.worst) after, (start_fits _ ((desk_says _).0 (sym c.is_desk.ensures ∙ c.if-not-is_desk.false)) _ _ (sym c.start_tests-test.ensures ∙ c.in_default.is)), word) in
+    let s = c.args in
+    let after = t.ensures ∙ taken s.desk.now s.row s.minute (sym c.is_desk.ensures ∙ c.if-not-is_desk.false) (fits _ _ _ c.is_desk.ensures c.if-not-is_desk.false c.start_tests-test.ensures c.in_default.is) in
+    let word = c.type_inv.desk 2 in
+    let w : t.result.worst < 4294967296 = omega (arith, ap (λ (d : Desk). d.worst) after, (fits _ _ _ c.is_desk.ensures c.if-not-is_desk.false c.start_tests-test.ensures c.in_default.is), word) in
     let z = lowered_word t.result.worst c.lower.result w c.lower.ensures ∙ ap (λ (d : Desk). lowered d.worst) after in
     let v = c.store.ensures ∙
     ap (λ (d : Desk). moved_words s.desk.now s.row d.minute d.worst) after in
