@@ -379,7 +379,7 @@ def turn(folder, key, data, crate, fn, all_functions, old):
             kind, loop = n.group(1), norm(n.group(2))
             new, variables, changed = loops.get(loop, ("loop-" + n.group(2), [], []))
             clause_line = re.search(r"^(?:invariant|decreases)-\S+ ([^=]*?) =(.*)$", joined, re.S | re.M)
-            params = clause_line.group(1).split()
+            params = [w for w in clause_line.group(1).split() if not re.fullmatch(r"t\d+₀?", w)]
             body = clause_line.group(2)
             want = []
             for v, ch in zip(variables, changed):

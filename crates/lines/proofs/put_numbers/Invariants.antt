@@ -7,8 +7,8 @@ use Rattle.lines.specs.Added.{Added}
 use Rattle.lines.proofs.put_numbers.Given as goal
 
 abbrev pub invariant-loop-k : goal.invariant-loop-k
-invariant-loop-k l = (k ≤ length l.numbers) × Added l.k l.at (11 * k) l.initial.sheet
-    (number_fields (take k l.numbers)) l.end
+invariant-loop-k l = (l.k ≤ length l.numbers) × Added l.end l.at (11 * l.k) l.initial.sheet
+    (number_fields (take l.k l.numbers)) l.sheet
 
 abbrev pub decreases-loop-k : goal.decreases-loop-k
-decreases-loop-k l = length l.numbers - k
+decreases-loop-k l = length l.numbers - l.k
