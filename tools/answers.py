@@ -270,14 +270,15 @@ class Function:
         text = PATH_C.sub(lambda m: self.path(m.group(2).split(".")[1:]) if m.group(2) else m.group(0), text)
         for m in re.finditer(r"let ([\w']+) = c\.args in", text):
             text = re.sub(r"(?<![\w.])" + re.escape(m.group(1)) + r"\.result\b", m.group(1) + ".res", text)
-        for m in re.finditer(r"let ([\w']+) = c\.(?!args\b)[\w-]+ in", text):
+        for m in re.finditer(r"let ([\w']+) = c\.(?!args\b|loop\b)[\w-]+ in", text):
             text = re.sub(r"(?<![\w.])" + re.escape(m.group(1)) + r"\.res(?!\.now)\b", m.group(1) + ".result", text)
         for name, term in self.helpers.items():
             text = re.sub(r"(\(?)(?<![\w.'-])" + re.escape(name) + r" c(?:\.before)*(?![\w.'-])(\)?)",
                 lambda m: "(" + term + ")" if m.group(1) and m.group(2) else m.group(1) + "(" + term + ")" + m.group(2), text)
         text = re.sub(r"omega \(arith, \(omega \(arith, ([^\n]*?)\)\)\)", r"omega (arith, \1)", text)
         # a test on `!x` says today what x is
-        return re.sub(r"\bnot-(?:true|false) _ (c(?:\.[\w-]+)+)", r"\1", text)
+        text = re.sub(r"c\.if-not-[\w-]+\.(?:true|false)", lambda m: "(ap not " + m.group(0) + ")", text)
+        return re.sub(r"\bnot-(?:true|false) _ \(ap not (c(?:\.[\w-]+)+)\)", r"\1", text)
 
     @staticmethod
     def let_end(text):
@@ -379,7 +380,7 @@ def turn(folder, key, data, crate, fn, all_functions, old):
             kind, loop = n.group(1), norm(n.group(2))
             new, variables, changed = loops.get(loop, ("loop-" + n.group(2), [], []))
             clause_line = re.search(r"^(?:invariant|decreases)-\S+ ([^=]*?) =(.*)$", joined, re.S | re.M)
-            params = clause_line.group(1).split()
+            params = [w for w in clause_line.group(1).split() if not re.fullmatch(r"t\d+₀?", w)]
             body = clause_line.group(2)
             want = []
             for v, ch in zip(variables, changed):
