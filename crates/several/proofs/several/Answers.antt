@@ -30,7 +30,7 @@ days_answer-requires c =
     let if1 = c.if-lent_amiss in
     let read-desks = c.read_desks-read in
     let a = c.args in
-    let r = (lent_right _ _ _ _ _).0 (sym lent-amiss.ensures ∙ if1.left) in
+    let r = (lent_right _ _ _ _ _).0 (sym lent-amiss.ensures ∙ if1.false) in
     let d = days_read _ _ _ _ _ _ _ _ read-desks.ensures _ c.in-Rows.is in
     let h = days_ready (ordering_rule a.opening) a.books.now a.lengths.now a.closings.now _ _ _ _ _ _
     read-desks.ensures _ d r.even in
@@ -54,10 +54,10 @@ returns-in-Rows c =
     in
     let days-answer = c.days_answer in
     let a = c.args in
-    let r = (lent_right _ _ _ _ _).0 (sym lent-amiss.ensures ∙ if1.left) in
+    let r = (lent_right _ _ _ _ _).0 (sym lent-amiss.ensures ∙ if1.false) in
     let d = days_read _ _ _ _ _ _ _ _ read-desks.ensures _ c.in-Rows.is in
     let h = days_ready (ordering_rule a.opening) a.books.now a.lengths.now a.closings.now _ _ _ _ _ _
     read-desks.ensures _ d r.even in
     days-answer.ensures a.opening d.all_days h ∙
     sym (call_days a.opening a.books.now a.lengths.now a.closings.now a.limit a.res.now
-    (sym lent-amiss.ensures ∙ if1.left) d.all_days d.read)
+    (sym lent-amiss.ensures ∙ if1.false) d.all_days d.read)
