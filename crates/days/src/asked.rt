@@ -26,7 +26,7 @@ fn given(place: usize, end: u32, late: i32) -> Answer {
         number: 0,
         place: place,
         end: end,
-        late: std::num::wrapping_add_u32(schedule::raise(late), 2_147_483_648),
+        late: late.cast_unsigned(),
     }
 }
 
@@ -66,8 +66,8 @@ pub fn ask(call: u8, opening: u32, book: &[u32], k: u32, words: &mut [u32]) -> A
         b'l' => listed(planner::list(opening, book, words)),
         b'o' => ordered(planner::order_of_plan(opening, book, k, words)),
         _ => {
-            let y = schedule::lower(std::num::wrapping_add_u32(k, 2_147_483_648));
-            ordered(planner::order_for_bound(opening, book, y, words))
+            let bound = k.cast_signed();
+            ordered(planner::order_for_bound(opening, book, bound, words))
         }
     }
 }

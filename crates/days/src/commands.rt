@@ -2,127 +2,130 @@
 use crate::asked::Answer;
 use crate::state::{State, WHOLE};
 use crate::{asked, say, state};
+use std::io;
+use std::io::Write;
 
 // What a result buffer holds before a call.
 const HELD: u32 = 777_777_777;
 
-fn one_if(test: bool) -> u64 {
-    if test { 1 } else { 0 }
-}
-
 // How many words of a buffer hold what they held.
-fn held(words: &[u32]) -> u64 {
-    let mut n: u64 = 0;
-    let mut k: usize = 0;
-    while k < words.len() {
-        n = std::num::wrapping_add_u64(n, one_if(words[k] == HELD));
-        k += 1;
-    }
-    n
+fn held(words: &[u32]) -> usize {
+    words.iter().filter(|word| **word == HELD).count()
 }
 
 // A refusal, the count of a list, or a pair.
-fn brief(call: u8, a: Answer) {
+fn brief(out: &mut impl Write, call: u8, a: Answer) -> io::Result<()> {
     if a.number != 0 {
-        say::refusal(a.number, a.place);
+        say::refusal(out, a.number, a.place)
     } else if call == b'l' {
-        say::after(b" ", a.place as u64);
+        say::after(out, " ", a.place as u64)
     } else {
-        say::pair(a.end, a.late);
+        say::pair(out, a.end, a.late)
     }
 }
 
 // The pairs of a list, or the rows of an order.
-fn filled(call: u8, a: Answer, words: &[u32], rows: usize) {
+fn filled(out: &mut impl Write, call: u8, a: Answer, words: &[u32], rows: usize) -> io::Result<()> {
     if call == b'l' {
-        say::pairs(words, a.place);
+        say::pairs(out, words, a.place)
     } else {
-        say::values(state::first(words, rows));
+        say::values(out, state::first(words, rows))
     }
 }
 
 // The whole answer of a call, where its buffer is long enough for any.
-fn whole(call: u8, opening: u32, book: &[u32], k: u32, words: &mut [u32]) {
+fn whole(
+    out: &mut impl Write,
+    call: u8,
+    opening: u32,
+    book: &[u32],
+    k: u32,
+    words: &mut [u32],
+) -> io::Result<()> {
     let a = asked::ask(call, opening, book, k, words);
     if call == b'l' && a.number == 0 {
-        say::text(b" plans");
+        say::text(out, " plans")?;
     }
-    brief(call, a);
-    if a.number == 0 {
-        filled(call, a, words, book.len() / 4);
+    brief(out, call, a)?;
+    if a.number != 0 {
+        return Ok(());
     }
+    filled(out, call, a, words, book.len() / 4)
 }
 
 // The answer in brief, and how many words of the buffer hold what they held.
-fn into(call: u8, opening: u32, book: &[u32], k: u32, words: &mut [u32]) {
-    brief(call, asked::ask(call, opening, book, k, words));
-    say::after(b"+", held(words));
+fn into(
+    out: &mut impl Write,
+    call: u8,
+    opening: u32,
+    book: &[u32],
+    k: u32,
+    words: &mut [u32],
+) -> io::Result<()> {
+    brief(out, call, asked::ask(call, opening, book, k, words))?;
+    say::after(out, "+", held(words) as u64)
 }
 
 // A call that fills a buffer.
-fn ask(call: u8, s: State, k: u32) {
+fn ask(out: &mut impl Write, call: u8, s: &State, k: u32) -> io::Result<()> {
     let mut words = [HELD; WHOLE];
     let size = s.size;
     let book = state::first(&s.book, s.length);
     if size < WHOLE {
-        into(call, s.opening, book, k, &mut words[..size]);
+        into(out, call, s.opening, book, k, &mut words[..size])
     } else {
-        whole(call, s.opening, book, k, &mut words);
+        whole(out, call, s.opening, book, k, &mut words)
     }
 }
 
 // The list, and the orders of its plans up to the fourth.
-fn digest(s: State) {
-    ask(b'l', s, 0);
-    say::text(b";");
-    ask(b'o', s, 1);
-    say::text(b";");
-    ask(b'o', s, 2);
-    say::text(b";");
-    ask(b'o', s, 3);
-    say::text(b";");
-    ask(b'o', s, 4);
+fn digest(out: &mut impl Write, s: &State) -> io::Result<()> {
+    ask(out, b'l', s, 0)?;
+    for plan in 1..5 {
+        say::text(out, ";")?;
+        ask(out, b'o', s, plan)?;
+    }
+    Ok(())
 }
 
 // The verdict on a posting.
-fn judge(s: State) {
-    let posting = s.posting;
+fn judge(out: &mut impl Write, s: &State) -> io::Result<()> {
     let a = asked::verdict(
         s.opening,
         state::first(&s.book, s.length),
-        state::first(&posting, s.entries),
+        state::first(&s.posting, s.entries),
     );
-    brief(b'j', a);
+    brief(out, b'j', a)?;
     if a.number != 0 {
-        return;
+        return Ok(());
     }
     if a.place == 0 {
-        say::text(b" unbeaten");
+        say::text(out, " unbeaten")
     } else {
-        say::after(b" beaten by ", a.place as u64);
+        say::after(out, " beaten by ", a.place as u64)
     }
 }
 
 // The place of a row and its words, by their values.
-fn row(s: State, k: u32) {
+fn row(out: &mut impl Write, s: &State, k: u32) -> io::Result<()> {
     let book = state::first(&s.book, s.length);
     let a = asked::row_place(book, k);
     if a.number == 0 {
-        say::after(b" at ", a.place as u64);
+        say::after(out, " at ", a.place as u64)?;
     } else {
-        say::refusal(a.number, a.place);
+        say::refusal(out, a.number, a.place)?;
     }
-    say::values(asked::row_words(book, k));
+    say::values(out, asked::row_words(book, k))
 }
 
 // The refusal of a book, or that it is taken.
-fn test(s: State) {
+fn test(out: &mut impl Write, s: &State) -> io::Result<()> {
     let a = asked::refusal(s.opening, state::first(&s.book, s.length));
     let number = a.number;
     match number {
-        0 => say::text(b" taken"),
-        asked::DIFFERENT => say::text(b" THE CALLS DIFFER"),
-        _ => say::refusal(number, a.place),
+        0 => say::text(out, " taken"),
+        asked::DIFFERENT => say::text(out, " THE CALLS DIFFER"),
+        _ => say::refusal(out, number, a.place),
     }
 }
 
@@ -132,65 +135,57 @@ fn changed(command: u8, w: u32, v: u32) -> u32 {
     match command {
         b'k' => state::word(v, w),
         b'v' => state::word(kind, v),
-        b'm' => state::word(kind, std::num::wrapping_add_u32(w, v)),
+        b'm' => state::word(kind, w.wrapping_add(v)),
         _ => v,
     }
 }
 
 // The book with the word at its place changed.
-fn with_changed(s: State, v: u32) -> State {
+fn with_changed(s: &State, v: u32) -> State {
     let place = s.place;
-    state::with(
-        s,
-        place,
-        changed(s.command, state::word_at(&s.book, place), v),
-    )
+    let w = state::word_at(&s.book, place);
+    state::with(*s, place, changed(s.command, w, v))
 }
 
 // The book made so that it is to be refused with a number at a place, or three words before it.
-fn broken(s: State, number: u32, place: usize) -> State {
+fn broken(s: &State, number: u32, place: usize) -> State {
     let w = state::word_at(&s.book, place);
     match number {
-        1 => state::cut(s, place),
-        2 => state::with(
-            s,
-            place,
-            state::word(std::num::wrapping_add_u32(w / 536_870_912, 1), w),
-        ),
-        3 => state::with(s, place, changed(b'v', w, 20_000_001)),
-        4 => state::with(s, place, state::word(3, 1)),
-        _ => state::with(s, place, state::word(6, 6)),
+        1 => state::cut(*s, place),
+        2 => state::with(*s, place, state::word((w / 536_870_912).wrapping_add(1), w)),
+        3 => state::with(*s, place, changed(b'v', w, 20_000_001)),
+        4 => state::with(*s, place, state::word(3, 1)),
+        _ => state::with(*s, place, state::word(6, 6)),
     }
 }
 
-fn is_hit(s: State, number: u32, place: usize) -> bool {
+fn is_hit(s: &State, number: u32, place: usize) -> bool {
     let a = asked::refusal(s.opening, state::first(&s.book, s.length));
     let back = if number == 8 { 3 } else { 0 };
-    a.number == number && std::num::wrapping_add_usize(a.place, back) == place
+    a.number == number && a.place.wrapping_add(back) == place
 }
 
 // At how many places the book can be refused with a number there.
-fn hits(s: State, number: u32) {
-    let length = s.length;
+fn hits(out: &mut impl Write, s: &State, number: u32) -> io::Result<()> {
     let mut n: u64 = 0;
-    let mut place: usize = 0;
-    while place < length {
-        n = std::num::wrapping_add_u64(n, one_if(is_hit(broken(s, number, place), number, place)));
-        place += 1;
+    for place in 0..s.length {
+        if is_hit(&broken(s, number, place), number, place) {
+            n += 1;
+        }
     }
-    say::after(b" ", n);
+    say::after(out, " ", n)
 }
 
 // What a number asks.
-fn asked(s: State, v: u32) {
+fn asked(out: &mut impl Write, s: &State, v: u32) -> io::Result<()> {
     let command = s.command;
     match command {
-        b'c' => test(state::cut(s, v as usize)),
-        b'f' | b'o' => ask(command, s, v),
-        b'h' => hits(s, v),
-        b'k' | b'm' | b'v' | b'w' => test(with_changed(s, v)),
-        b'r' => row(s, v),
-        _ => {}
+        b'c' => test(out, &state::cut(*s, v as usize)),
+        b'f' | b'o' => ask(out, command, s, v),
+        b'h' => hits(out, s, v),
+        b'k' | b'm' | b'v' | b'w' => test(out, &with_changed(s, v)),
+        b'r' => row(out, s, v),
+        _ => Ok(()),
     }
 }
 
@@ -213,23 +208,23 @@ fn taken(s: State, v: u32) -> State {
 }
 
 // A number after a command.
-pub fn number(s: State, v: u32) -> State {
-    asked(s, v);
-    taken(s, v)
+pub fn number(out: &mut impl Write, s: State, v: u32) -> io::Result<State> {
+    asked(out, &s, v)?;
+    Ok(taken(s, v))
 }
 
 // A command.
-pub fn word(s: State, command: u8) -> State {
+pub fn word(out: &mut impl Write, s: State, command: u8) -> io::Result<State> {
     let mut t = s;
     t.command = command;
     match command {
         b'b' => t.length = 0,
-        b'd' => digest(s),
+        b'd' => digest(out, &s)?,
         b'e' => t.entries = 0,
-        b'j' => judge(s),
-        b'l' => ask(command, s, 0),
-        b't' => test(s),
+        b'j' => judge(out, &s)?,
+        b'l' => ask(out, command, &s, 0)?,
+        b't' => test(out, &s)?,
         _ => {}
     }
-    t
+    Ok(t)
 }

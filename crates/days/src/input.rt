@@ -1,6 +1,8 @@
 // From bytes to commands.
 use crate::state::State;
 use crate::{commands, say};
+use std::io;
+use std::io::Write;
 
 // What the last byte was of.
 const NOTHING: u8 = 0;
@@ -23,12 +25,12 @@ fn inside(s: State, part: u8) -> State {
 }
 
 // A byte of a text, up to its end.
-fn text(s: State, byte: u8) -> State {
+fn text(out: &mut impl Write, s: State, byte: u8) -> io::Result<State> {
     if byte == b'"' {
-        return inside(s, NOTHING);
+        return Ok(inside(s, NOTHING));
     }
-    say::byte(byte);
-    s
+    say::byte(out, byte)?;
+    Ok(s)
 }
 
 // A byte of a comment, up to the end of the line.
@@ -60,52 +62,57 @@ fn before(s: State, kind: u32) -> State {
 // The number that was read.
 fn number(kind: u32, value: u32) -> u32 {
     if kind == NEGATIVE {
-        return std::num::wrapping_sub_u32(0, value);
+        return 0u32.wrapping_sub(value);
     }
-    std::num::wrapping_add_u32((kind % 8) * 536_870_912, value)
+    ((kind % 8) * 536_870_912).wrapping_add(value)
 }
 
 // The end of a number, where there was one.
-fn ended(s: State) -> State {
-    if s.inside == NUMBER {
-        return before(commands::number(s, number(s.kind, s.value)), 0);
+fn ended(out: &mut impl Write, s: State) -> io::Result<State> {
+    if s.inside != NUMBER {
+        return Ok(s);
     }
-    s
+    let t = commands::number(out, s, number(s.kind, s.value))?;
+    Ok(before(t, 0))
 }
 
 // A letter of a word: the first one is the command.
-fn letter(s: State, byte: u8) -> State {
+fn letter(out: &mut impl Write, s: State, byte: u8) -> io::Result<State> {
     if s.inside == WORD {
-        return s;
+        return Ok(s);
     }
-    inside(commands::word(s, byte), WORD)
+    let t = commands::word(out, s, byte)?;
+    Ok(inside(t, WORD))
 }
 
 // A byte that is no digit, and that ends a number.
-fn mark(s: State, byte: u8) -> State {
+fn mark(out: &mut impl Write, s: State, byte: u8) -> io::Result<State> {
     match byte {
-        b'a'..=b'z' => letter(s, byte),
-        b'"' => inside(s, TEXT),
-        b'#' => inside(s, COMMENT),
-        b'-' => before(s, NEGATIVE),
+        b'a'..=b'z' => letter(out, s, byte),
+        b'"' => Ok(inside(s, TEXT)),
+        b'#' => Ok(inside(s, COMMENT)),
+        b'-' => Ok(before(s, NEGATIVE)),
         b'.' => {
-            say::text(b"\n");
-            inside(s, NOTHING)
-        },
-        _ => inside(s, NOTHING),
+            say::text(out, "\n")?;
+            Ok(inside(s, NOTHING))
+        }
+        _ => Ok(inside(s, NOTHING)),
     }
 }
 
-pub fn read(s: State, byte: u8) -> State {
+pub fn read(out: &mut impl Write, s: State, byte: u8) -> io::Result<State> {
     if s.inside == TEXT {
-        return text(s, byte);
+        return text(out, s, byte);
     }
     if s.inside == COMMENT {
-        return comment(s, byte);
+        return Ok(comment(s, byte));
     }
     match byte {
-        b'0'..=b'9' => digit(s, byte),
-        b':' => before(s, s.value),
-        _ => mark(ended(s), byte),
+        b'0'..=b'9' => Ok(digit(s, byte)),
+        b':' => Ok(before(s, s.value)),
+        _ => {
+            let t = ended(out, s)?;
+            mark(out, t, byte)
+        }
     }
 }

@@ -26,26 +26,30 @@
 // A refusal is printed as number@place, a pair as (end lateness). Of a call into a buffer of N words only the pair or the count of plans is
 // printed, and then how many words of the buffer hold what they held.
 #![tactic(auto)]
+
 mod asked;
 mod commands;
 mod input;
 mod say;
 mod state;
 
-use libc::STDIN_FILENO;
 use state::State;
+use std::io;
+use std::io::Write;
 
-fn run(bytes: &[u8]) {
+// The most bytes of the input.
+const BYTES: usize = 65_536;
+
+fn run(out: &mut impl Write, bytes: &[u8]) -> io::Result<()> {
     let mut s = State::new();
-    let mut i: usize = 0;
-    while i < bytes.len() {
-        s = input::read(s, bytes[i]);
-        i += 1;
+    for byte in bytes {
+        s = input::read(out, s, *byte)?;
     }
+    Ok(())
 }
 
-fn main() {
-    let mut bytes = io::large_buffer();
-    let size = io::read_full(STDIN_FILENO, &mut bytes);
-    run(&bytes[..size]);
+fn main(rt: HostRuntime) -> io::Result<()> {
+    let mut bytes = [0u8; BYTES];
+    let size = streams::read_full(&mut rt.stdin(), &mut bytes)?;
+    run(&mut rt.stdout(), &bytes[..size])
 }

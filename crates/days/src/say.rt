@@ -1,66 +1,52 @@
-// Texts and numbers on standard output.
+// What is printed: texts and numbers.
 use crate::state;
-use libc::STDOUT_FILENO;
+use std::io;
+use std::io::Write;
 
-pub fn text(bytes: &[u8]) {
-    io::write_all(STDOUT_FILENO, bytes);
+pub fn text(out: &mut impl Write, text: &str) -> io::Result<()> {
+    write!(out, "{text}")
 }
 
 // A byte of a text.
-pub fn byte(b: u8) {
-    text(&[b]);
+pub fn byte(out: &mut impl Write, b: u8) -> io::Result<()> {
+    out.write_all(&[b])
 }
 
 // A number after a text.
-pub fn after(bytes: &[u8], n: u64) {
-    text(bytes);
-    io::print_decimal(STDOUT_FILENO, n);
+pub fn after(out: &mut impl Write, text: &str, n: u64) -> io::Result<()> {
+    write!(out, "{text}{n}")
 }
 
-// A number in two's complement.
-fn signed(n: u32) {
-    if n < 2_147_483_648 {
-        after(b" ", n as u64);
-    } else {
-        after(b" -", 4_294_967_296 - (n as u64));
-    }
-}
-
-// An end and a worst lateness.
-pub fn pair(end: u32, late: u32) {
-    after(b" (", end as u64);
-    signed(late);
-    text(b")");
+// An end and a worst lateness, in two's complement.
+pub fn pair(out: &mut impl Write, end: u32, late: u32) -> io::Result<()> {
+    let late = late.cast_signed();
+    write!(out, " ({end} {late})")
 }
 
 // A refusal: its number at its place.
-pub fn refusal(n: u32, place: usize) {
-    after(b" ", n as u64);
-    after(b"@", place as u64);
+pub fn refusal(out: &mut impl Write, n: u32, place: usize) -> io::Result<()> {
+    write!(out, " {n}@{place}")
 }
 
-fn value(w: u32) {
-    after(b" ", (w % 536_870_912) as u64);
+fn value(out: &mut impl Write, w: u32) -> io::Result<()> {
+    after(out, " ", (w % 536_870_912) as u64)
 }
 
 // The values of words one after another.
-pub fn values(words: &[u32]) {
-    let mut k: usize = 0;
-    while k < words.len() {
-        value(words[k]);
-        k += 1;
+pub fn values(out: &mut impl Write, words: &[u32]) -> io::Result<()> {
+    for word in words {
+        value(out, *word)?;
     }
+    Ok(())
 }
 
 // Pairs one after another.
-pub fn pairs(words: &[u32], count: usize) {
-    let mut k: usize = 0;
-    while k < count {
-        let at = std::num::wrapping_add_usize(k, k);
-        pair(
-            state::word_at(words, at),
-            state::word_at(words, std::num::wrapping_add_usize(at, 1)),
-        );
-        k += 1;
+pub fn pairs(out: &mut impl Write, words: &[u32], count: usize) -> io::Result<()> {
+    for k in 0..count {
+        let at = k.wrapping_add(k);
+        let end = state::word_at(words, at);
+        let late = state::word_at(words, at.wrapping_add(1));
+        pair(out, end, late)?;
     }
+    Ok(())
 }

@@ -11,7 +11,7 @@ const KIND: u32 = 536_870_912;
 // The book, its length and the posting; the opening minutes, a place, the words of the result buffer, and by how much more each release
 // and due rises than the one above. The command that is read, whether the last byte was of a text, a comment, a word or a number, and the
 // number's kind and value.
-#[derive(Drop)]
+#[derive(Clone, Copy)]
 pub struct State {
     pub book: [u32; ROOM],
     pub length: usize,
@@ -91,7 +91,7 @@ pub fn cut(s: State, length: usize) -> State {
 // The book with a word more.
 pub fn more(s: State, w: u32) -> State {
     let n = s.length;
-    cut(with(s, n, w), std::num::wrapping_add_usize(n, 1))
+    cut(with(s, n, w), n.wrapping_add(1))
 }
 
 // The posting with an entry more.
@@ -108,11 +108,11 @@ pub fn posted(s: State, entry: u32) -> State {
 // The word that a row takes over from the two rows above it: as much above the one as that is above the other, a release or a due by so
 // much more.
 fn next_word(words: &[u32], n: usize, rise: u32) -> u32 {
-    let last = word_at(words, std::num::wrapping_sub_usize(n, 4));
-    let before = word_at(words, std::num::wrapping_sub_usize(n, 8));
-    let w = std::num::wrapping_sub_u32(std::num::wrapping_add_u32(last, last), before);
+    let last = word_at(words, n.wrapping_sub(4));
+    let before = word_at(words, n.wrapping_sub(8));
+    let w = last.wrapping_add(last).wrapping_sub(before);
     if w / KIND % 2 == 0 {
-        return std::num::wrapping_add_u32(w, rise);
+        return w.wrapping_add(rise);
     }
     w
 }
@@ -124,10 +124,8 @@ fn next(s: State) -> State {
 // So many rows more, each made of the two above it.
 pub fn rows(s: State, count: u32) -> State {
     let mut t = s;
-    let mut k: u32 = 0;
-    while k < count {
+    for _ in 0..count {
         t = next(next(next(next(t))));
-        k += 1;
     }
     t
 }

@@ -4,23 +4,28 @@ use crate::day::Day;
 use crate::orders::Front;
 use crate::tally::Tally;
 use crate::{asked, day, orders, say, tally};
+use std::io;
+use std::io::Write;
 
 // An answer that is right, or a difference: what was asked is l for the list, o for the order of a plan, f for that for a bound, j for a
 // verdict.
-fn checked(t: Tally, is_right: bool, what: u8, asked: u32) -> Tally {
+fn checked(
+    out: &mut impl Write,
+    t: Tally,
+    is_right: bool,
+    what: u8,
+    asked: u32,
+) -> io::Result<Tally> {
     if is_right {
-        return t;
+        return Ok(t);
     }
-    let counts = t.counts;
-    say::difference(counts[tally::BOOKS], what, asked);
-    tally::add(t, tally::DIFFERENCES, 1)
+    say::difference(out, t.counts[tally::BOOKS], what, asked)?;
+    Ok(tally::add(t, tally::DIFFERENCES, 1))
 }
 
 // What the day is like.
-fn counted(t: Tally, day: Day, front: Front) -> Tally {
-    let ends = front.ends;
-    let lates = front.lates;
-    let last = std::num::wrapping_sub_usize(front.count, 1) % 16;
+fn counted(t: Tally, day: &Day, front: &Front) -> Tally {
+    let last = front.count.wrapping_sub(1) % 16;
     let mut u = tally::add(t, tally::BOOKS, 1);
     u = tally::add(u, front.count, 1);
     u = tally::add_if(u, tally::ONE_CLASS, day::is_of_class(day));
@@ -28,154 +33,169 @@ fn counted(t: Tally, day: Day, front: Front) -> Tally {
     u = tally::add_if(u, tally::DROPPED, day.dropped);
     u = tally::add_if(u, tally::UNSORTED, day.unsorted);
     u = tally::add_if(u, tally::TIES, day.tie);
-    u = tally::add_if(
-        u,
-        tally::IDLE,
-        ends[0] != std::num::wrapping_add_u32(day.free, day.total),
-    );
-    u = tally::add_if(u, tally::EARLY, lates[last] < orders::RAISE);
+    let is_idle = front.ends[0] != day.free.wrapping_add(day.total);
+    u = tally::add_if(u, tally::IDLE, is_idle);
+    u = tally::add_if(u, tally::EARLY, front.lates[last] < orders::RAISE);
     tally::add(u, tally::ORDERS, orders::how_many(day.count))
 }
 
 // The first pair with an end and a worst lateness no greater, or the count.
-fn first_within(front: Front, end: u32, late: u32) -> usize {
-    let ends = front.ends;
-    let lates = front.lates;
+fn first_within(front: &Front, end: u32, late: u32) -> usize {
     let count = day::at_most(front.count, 16);
-    let mut k: usize = 0;
-    while k < count {
-        if (ends[k] <= end) & (lates[k] <= late) {
+    for k in 0..count {
+        if front.ends[k] <= end && front.lates[k] <= late {
             return k;
         }
-        k += 1;
     }
     front.count
 }
 
 // The rows are an order of all rows, and it attains the pair.
-fn attains(day: Day, rows: [u32; 8], end: u32, late: u32) -> bool {
+fn attains(day: &Day, rows: &[u32; 8], end: u32, late: u32) -> bool {
     let pair = orders::pair_of(day, rows);
-    let all = std::num::wrapping_sub_u32(2 << (day.count % 9) as u32, 2);
-    (pair.taken == all) & (pair.end == end) & (pair.late == late)
+    let all = (2u32 << (day.count % 9)).wrapping_sub(2);
+    pair.taken == all && pair.end == end && pair.late == late
 }
 
 // An order for a bound, raised, keeps it and ends as soon as any order that keeps it; refused with the number where none does.
-fn is_right(day: Day, front: Front, a: Answer, rows: [u32; 8], y: u32, number: u32) -> bool {
-    let ends = front.ends;
-    let k = first_within(front, 4_294_967_295, y);
+fn is_right(day: &Day, front: &Front, a: Answer, rows: &[u32; 8], y: u32, number: u32) -> bool {
+    let k = first_within(front, u32::MAX, y);
     if a.number != 0 {
-        return (a.number == number) & (k == front.count);
+        return a.number == number && k == front.count;
     }
-    let is_kept = (k < front.count) & (a.end == ends[k % 16]) & (a.late <= y);
-    is_kept & attains(day, rows, a.end, a.late)
+    let is_kept = k < front.count && a.end == front.ends[k % 16] && a.late <= y;
+    is_kept && attains(day, rows, a.end, a.late)
 }
 
 // The order for a bound.
-fn bound(book: &[u32], day: Day, front: Front, y: u32, t: Tally) -> Tally {
+fn bound(
+    out: &mut impl Write,
+    book: &[u32],
+    day: &Day,
+    front: &Front,
+    y: u32,
+    t: Tally,
+) -> io::Result<Tally> {
     let mut rows = [0u32; 8];
     let a = asked::bound(day.opening, book, y, &mut rows);
     let mut u = tally::add(t, tally::BOUNDS, 1);
     u = tally::add_if(u, tally::UNKEPT, a.number != 0);
-    checked(u, is_right(day, front, a, rows, y, 12), b'f', y)
+    checked(out, u, is_right(day, front, a, &rows, y, 12), b'f', y)
 }
 
 // The order of a plan, which is the order for its own worst lateness. A number that no plan has is refused 11, with the count of plans as
 // place.
-fn plan(book: &[u32], day: Day, front: Front, k: u32, late: u32, t: Tally) -> Tally {
+fn plan(
+    out: &mut impl Write,
+    book: &[u32],
+    day: &Day,
+    front: &Front,
+    k: u32,
+    late: u32,
+    t: Tally,
+) -> io::Result<Tally> {
     let mut rows = [0u32; 8];
     let a = asked::plan(day.opening, book, k, &mut rows);
-    let is_placed = (a.number == 0) | (a.place == front.count);
+    let is_placed = a.number == 0 || a.place == front.count;
     checked(
+        out,
         t,
-        is_placed & is_right(day, front, a, rows, late, 11),
+        is_placed && is_right(day, front, a, &rows, late, 11),
         b'o',
         k,
     )
 }
 
 // The list has the pair at a place.
-fn has_pair(words: [u32; 16], k: usize, end: u32, late: u32) -> bool {
+fn has_pair(words: &[u32; 16], k: usize, end: u32, late: u32) -> bool {
     let at = 2 * (k % 8);
-    (words[at] == end) & (words[at + 1] == std::num::wrapping_sub_u32(late, orders::RAISE))
+    words[at] == end && words[at + 1] == late.wrapping_sub(orders::RAISE)
 }
 
 // A pair in the list, its plan, and bounds at its lateness, one below, one above, and half way to that of the next.
-fn pair(book: &[u32], day: Day, front: Front, words: [u32; 16], k: usize, t: Tally) -> Tally {
-    let ends = front.ends;
-    let lates = front.lates;
-    let late = lates[k % 16];
-    let next = lates[(k % 16 + 1) % 16];
+fn pair(
+    out: &mut impl Write,
+    book: &[u32],
+    day: &Day,
+    front: &Front,
+    words: &[u32; 16],
+    k: usize,
+    t: Tally,
+) -> io::Result<Tally> {
+    let end = front.ends[k % 16];
+    let late = front.lates[k % 16];
+    let next = front.lates[(k % 16 + 1) % 16];
     let number = (k % 16) as u32 + 1;
-    let mut u = checked(t, has_pair(words, k, ends[k % 16], late), b'l', number);
-    u = plan(
-        book,
-        day,
-        front,
-        number,
-        late,
-        tally::add(u, tally::LISTED, 1),
-    );
-    u = bound(book, day, front, late, u);
-    u = bound(book, day, front, std::num::wrapping_sub_u32(late, 1), u);
-    u = bound(book, day, front, std::num::wrapping_add_u32(late, 1), u);
-    bound(
-        book,
-        day,
-        front,
-        std::num::wrapping_add_u32(late / 2, next / 2),
-        u,
-    )
+    let mut u = checked(out, t, has_pair(words, k, end, late), b'l', number)?;
+    u = tally::add(u, tally::LISTED, 1);
+    u = plan(out, book, day, front, number, late, u)?;
+    u = bound(out, book, day, front, late, u)?;
+    u = bound(out, book, day, front, late.wrapping_sub(1), u)?;
+    u = bound(out, book, day, front, late.wrapping_add(1), u)?;
+    bound(out, book, day, front, (late / 2).wrapping_add(next / 2), u)
 }
 
-fn pairs(book: &[u32], day: Day, front: Front, words: [u32; 16], t: Tally) -> Tally {
-    let count = day::at_most(front.count, 16);
+fn pairs(
+    out: &mut impl Write,
+    book: &[u32],
+    day: &Day,
+    front: &Front,
+    words: &[u32; 16],
+    t: Tally,
+) -> io::Result<Tally> {
     let mut u = t;
-    let mut k: usize = 0;
-    while k < count {
-        u = pair(book, day, front, words, k, u);
-        k += 1;
+    for k in 0..day::at_most(front.count, 16) {
+        u = pair(out, book, day, front, words, k, u)?;
     }
-    u
+    Ok(u)
 }
 
 // The list, the orders of its plans and of none, and the orders for bounds.
-fn plans(book: &[u32], day: Day, front: Front, t: Tally) -> Tally {
+fn plans(
+    out: &mut impl Write,
+    book: &[u32],
+    day: &Day,
+    front: &Front,
+    t: Tally,
+) -> io::Result<Tally> {
     let mut words = [0u32; 16];
     let a = asked::list(day.opening, book, &mut words);
     let count = (front.count % 16) as u32;
-    let mut u = checked(t, (a.number == 0) & (a.place == front.count), b'l', 0);
-    u = plan(book, day, front, 0, 0, u);
-    u = plan(book, day, front, count + 1, 0, u);
-    u = bound(book, day, front, 0, u);
-    u = bound(book, day, front, 4_294_967_295, u);
-    pairs(book, day, front, words, u)
+    let is_counted = a.number == 0 && a.place == front.count;
+    let mut u = checked(out, t, is_counted, b'l', 0)?;
+    u = plan(out, book, day, front, 0, 0, u)?;
+    u = plan(out, book, day, front, count + 1, 0, u)?;
+    u = bound(out, book, day, front, 0, u)?;
+    u = bound(out, book, day, front, u32::MAX, u)?;
+    pairs(out, book, day, front, &words, u)
 }
 
 // The number of the first pair that beats another, or 0. The first one with both numbers no greater does, unless it is the same.
-fn first_beating(front: Front, end: u32, late: u32) -> usize {
-    let ends = front.ends;
-    let lates = front.lates;
+fn first_beating(front: &Front, end: u32, late: u32) -> usize {
     let k = first_within(front, end, late) % 16;
-    if (ends[k] == end) & (lates[k] == late) {
+    if front.ends[k] == end && front.lates[k] == late {
         return 0;
     }
     k + 1
 }
 
 // The verdict on an order.
-fn verdict(book: &[u32], day: Day, front: Front, code: u32, t: Tally) -> Tally {
+fn verdict(
+    out: &mut impl Write,
+    book: &[u32],
+    day: &Day,
+    front: &Front,
+    code: u32,
+    t: Tally,
+) -> io::Result<Tally> {
     let rows = orders::order_at(day.count, code);
-    let pair = orders::pair_of(day, rows);
+    let pair = orders::pair_of(day, &rows);
     let a = asked::verdict(day.opening, book, day::first(&rows, day.count));
-    let is_judged = (a.number == 0) & (a.place == first_beating(front, pair.end, pair.late));
+    let is_judged = a.number == 0 && a.place == first_beating(front, pair.end, pair.late);
     let mut u = tally::add(t, tally::VERDICTS, 1);
-    u = tally::add_if(u, tally::UNBEATEN, (a.number == 0) & (a.place == 0));
-    checked(
-        u,
-        is_judged & (a.end == pair.end) & (a.late == pair.late),
-        b'j',
-        code,
-    )
+    u = tally::add_if(u, tally::UNBEATEN, a.number == 0 && a.place == 0);
+    let is_right = is_judged && a.end == pair.end && a.late == pair.late;
+    checked(out, u, is_right, b'j', code)
 }
 
 // All orders of up to 5 rows are judged, and some hundred of more.
@@ -188,30 +208,31 @@ fn is_judged(n: usize, code: u32) -> bool {
     }
 }
 
-fn verdicts(book: &[u32], day: Day, front: Front, t: Tally) -> Tally {
-    let n = day.count;
-    let most = orders::how_many(n);
+fn verdicts(
+    out: &mut impl Write,
+    book: &[u32],
+    day: &Day,
+    front: &Front,
+    t: Tally,
+) -> io::Result<Tally> {
     let mut u = t;
-    let mut code: u32 = 0;
-    while code < most {
-        if is_judged(n, code) {
-            u = verdict(book, day, front, code, u);
+    for code in 0..orders::how_many(day.count) {
+        if is_judged(day.count, code) {
+            u = verdict(out, book, day, front, code, u)?;
         }
-        code += 1;
     }
-    u
+    Ok(u)
 }
 
 // A whole day, by its book.
-fn day_of(book: &[u32], day: Day, t: Tally) -> Tally {
+fn day_of(out: &mut impl Write, book: &[u32], day: &Day, t: Tally) -> io::Result<Tally> {
     let front = orders::front_of(day);
-    let planned = plans(book, day, front, counted(t, day, front));
-    verdicts(book, day, front, planned)
+    let planned = plans(out, book, day, &front, counted(t, day, &front))?;
+    verdicts(out, book, day, &front, planned)
 }
 
 // A day whose rows are all read.
-pub fn book(day: Day, t: Tally) -> Tally {
+pub fn book(out: &mut impl Write, day: Day, t: Tally) -> io::Result<Tally> {
     let ended = day::with_word(day, 7, (day.count % 9) as u32);
-    let words = ended.words;
-    day_of(day::first(&words, ended.size), ended, t)
+    day_of(out, day::first(&ended.words, ended.size), &ended, t)
 }

@@ -8,7 +8,7 @@ const NO_CLASS: u32 = 8;
 // the rows by release, time at the desk, which is opening plus length, and due, the due of the last one, and the sum of the times. Whether
 // some reading time is an exact half over whole minutes, whether some length drops less than a half, whether a row is due before the row
 // above it, and whether two rows are due at the same minute.
-#[derive(Drop)]
+#[derive(Clone, Copy)]
 pub struct Day {
     pub read: usize,
     pub last: [u32; 3],
@@ -139,13 +139,13 @@ fn with_marks(day: Day, pages: u32, due: u32) -> Day {
 // The day with a row more.
 fn with_row(day: Day, release: u32, pages: u32, due: u32) -> Day {
     let n = day.count;
-    let time = std::num::wrapping_add_u32(day.opening, length_of(pages, day.pace));
+    let time = day.opening.wrapping_add(length_of(pages, day.pace));
     let mut more = with_marks(with_words(day, release, pages, due), pages, due);
     if n < 8 {
         more.release[n] = release;
         more.time[n] = time;
         more.due[n] = due;
-        more.total = std::num::wrapping_add_u32(day.total, time);
+        more.total = day.total.wrapping_add(time);
         more.count = n + 1;
     }
     more
@@ -173,7 +173,7 @@ pub fn with_number(day: Day, number: u32) -> Day {
     let last = day.last;
     let mut more = day;
     more.last = [last[1], last[2], number];
-    more.read = std::num::wrapping_add_usize(day.read, 1);
+    more.read = day.read.wrapping_add(1);
     if more.read % 3 != 0 {
         return more;
     }
@@ -181,6 +181,6 @@ pub fn with_number(day: Day, number: u32) -> Day {
 }
 
 // All rows are of one class.
-pub fn is_of_class(day: Day) -> bool {
+pub fn is_of_class(day: &Day) -> bool {
     day.class < NO_CLASS
 }

@@ -2,6 +2,8 @@
 use crate::day::Day;
 use crate::tally::Tally;
 use crate::{compare, day, say};
+use std::io;
+use std::io::Write;
 
 // What the last byte was of.
 const NOTHING: u8 = 0;
@@ -42,16 +44,15 @@ fn inside(s: Input, part: u8) -> Input {
 }
 
 // A byte of a text; at its end the next count.
-fn text(s: Input, byte: u8) -> Input {
+fn text(out: &mut impl Write, s: Input, byte: u8) -> io::Result<Input> {
     if byte != b'"' {
-        say::byte(byte);
-        return s;
+        say::byte(out, byte)?;
+        return Ok(s);
     }
-    let tally = s.tally;
-    say::count(day::number_at(&tally.counts, s.printed));
+    say::count(out, day::number_at(&s.tally.counts, s.printed))?;
     let mut t = inside(s, NOTHING);
-    t.printed = std::num::wrapping_add_usize(s.printed, 1);
-    t
+    t.printed = s.printed.wrapping_add(1);
+    Ok(t)
 }
 
 // A byte of a comment, up to the end of the line.
@@ -83,35 +84,31 @@ fn ended(s: Input) -> Input {
 }
 
 // The end of a line: its book, or the opening minutes, where it has either.
-fn line(s: Input) -> Input {
-    let day = s.day;
-    if day.read == 0 {
-        return s;
+fn line(out: &mut impl Write, s: Input) -> io::Result<Input> {
+    if s.day.read == 0 {
+        return Ok(s);
     }
-    if day.read == 1 {
-        let last = day.last;
-        return Input::new(last[2]);
+    if s.day.read == 1 {
+        return Ok(Input::new(s.day.last[2]));
     }
     let mut t = s;
-    let counted = compare::book(day, s.tally);
-    let none = Day::new(day.opening);
-    t.tally = counted;
-    t.day = none;
-    t
+    t.tally = compare::book(out, s.day, s.tally)?;
+    t.day = Day::new(s.day.opening);
+    Ok(t)
 }
 
-pub fn read(s: Input, byte: u8) -> Input {
+pub fn read(out: &mut impl Write, s: Input, byte: u8) -> io::Result<Input> {
     if s.inside == TEXT {
-        return text(s, byte);
+        return text(out, s, byte);
     }
     if s.inside == COMMENT {
-        return comment(s, byte);
+        return Ok(comment(s, byte));
     }
     match byte {
-        b'0'..=b'9' => digit(s, byte),
-        b'"' => inside(s, TEXT),
-        b'#' => inside(s, COMMENT),
-        b'\n' => line(ended(s)),
-        _ => ended(s),
+        b'0'..=b'9' => Ok(digit(s, byte)),
+        b'"' => Ok(inside(s, TEXT)),
+        b'#' => Ok(inside(s, COMMENT)),
+        b'\n' => line(out, ended(s)),
+        _ => Ok(ended(s)),
     }
 }

@@ -7,6 +7,7 @@
 //                                               again; at first they are 0
 //     # ..                                      a comment, to the end of its line
 #![tactic(auto)]
+
 mod asked;
 mod compare;
 mod day;
@@ -16,22 +17,22 @@ mod say;
 mod tally;
 
 use input::Input;
-use libc::STDIN_FILENO;
+use std::io;
+use std::io::Write;
 
 // The most bytes of the input.
 const BYTES: usize = 150_000;
 
-fn run(bytes: &[u8]) {
+fn run(out: &mut impl Write, bytes: &[u8]) -> io::Result<()> {
     let mut s = Input::new(0);
-    let mut i: usize = 0;
-    while i < bytes.len() {
-        s = input::read(s, bytes[i]);
-        i += 1;
+    for byte in bytes {
+        s = input::read(out, s, *byte)?;
     }
+    Ok(())
 }
 
-fn main() {
+fn main(rt: HostRuntime) -> io::Result<()> {
     let mut bytes = [0u8; BYTES];
-    let size = io::read_full(STDIN_FILENO, &mut bytes);
-    run(&bytes[..size]);
+    let size = streams::read_full(&mut rt.stdin(), &mut bytes)?;
+    run(&mut rt.stdout(), &bytes[..size])
 }

@@ -17,7 +17,7 @@ pub struct Pair {
 }
 
 // The pairs that no order beats, by rising end.
-#[derive(Drop)]
+#[derive(Clone, Copy)]
 pub struct Front {
     pub count: usize,
     pub ends: [u32; 16],
@@ -44,16 +44,11 @@ pub fn order_at(n: usize, code: u32) -> [u32; 8] {
     let mut order = [1u32, 2, 3, 4, 5, 6, 7, 8];
     let mut rest = code as usize;
     let count = day::at_most(n, 8);
-    let mut i: usize = 0;
-    while i < count {
+    for i in 0..count {
         let left = count - i;
         let next = (rest % left) % 8;
-        let j = (i + next) % 8;
-        rest = rest / left;
-        let row = order[i];
-        order[i] = order[j];
-        order[j] = row;
-        i += 1;
+        order.swap(i, (i + next) % 8);
+        rest /= left;
     }
     order
 }
@@ -61,8 +56,8 @@ pub fn order_at(n: usize, code: u32) -> [u32; 8] {
 // The pair with a row more: the row starts when it is released and the desk is free.
 fn after_row(pair: Pair, release: u32, time: u32, due: u32) -> Pair {
     let start = later(pair.end, release);
-    let end = std::num::wrapping_add_u32(start, time);
-    let late = std::num::wrapping_sub_u32(std::num::wrapping_add_u32(end, RAISE), due);
+    let end = start.wrapping_add(time);
+    let late = end.wrapping_add(RAISE).wrapping_sub(due);
     Pair {
         end: end,
         late: later(pair.late, late),
@@ -75,22 +70,17 @@ fn later(a: u32, b: u32) -> u32 {
 }
 
 // The end and the worst lateness of an order of rows, counted from 1, by the desk's own rules.
-pub fn pair_of(day: Day, order: [u32; 8]) -> Pair {
-    let release = day.release;
-    let time = day.time;
-    let due = day.due;
+pub fn pair_of(day: &Day, order: &[u32; 8]) -> Pair {
     let count = day::at_most(day.count, 8);
     let mut pair = Pair {
         end: day.free,
         late: 0,
         taken: 0,
     };
-    let mut k: usize = 0;
-    while k < count {
-        let i = (std::num::wrapping_sub_u32(order[k], 1) % 8) as usize;
-        pair = after_row(pair, release[i], time[i], due[i]);
-        pair.taken = pair.taken | (1 << (order[k] % 32));
-        k += 1;
+    for row in &order[..count] {
+        let i = (row.wrapping_sub(1) % 8) as usize;
+        pair = after_row(pair, day.release[i], day.time[i], day.due[i]);
+        pair.taken |= 1 << (*row % 32);
     }
     pair
 }
@@ -100,16 +90,13 @@ fn sooner(a: u32, b: u32) -> u32 {
 }
 
 // For each end the least worst lateness of the orders with that end.
-fn least(day: Day, best: &mut [u32; ENDS]) {
-    let most = how_many(day.count);
-    let mut code: u32 = 0;
-    while code < most {
-        let pair = pair_of(day, order_at(day.count, code));
+fn least(day: &Day, best: &mut [u32; ENDS]) {
+    for code in 0..how_many(day.count) {
+        let pair = pair_of(day, &order_at(day.count, code));
         let e = pair.end as usize;
         if e < ENDS {
             best[e] = sooner(best[e], pair.late);
         }
-        code += 1;
     }
 }
 
@@ -132,21 +119,19 @@ fn unbeaten(best: &[u32; ENDS]) -> Front {
         ends: [0; 16],
         lates: [0; 16],
     };
-    let mut limit: u32 = 4_294_967_295;
-    let mut e: usize = 0;
-    while e < ENDS {
-        if best[e] < limit {
-            limit = best[e];
+    let mut limit = u32::MAX;
+    for (e, late) in best.iter().enumerate() {
+        if *late < limit {
+            limit = *late;
             f = with_pair(f, e as u32, limit);
         }
-        e += 1;
     }
     f
 }
 
 // The pairs that no order of a day beats.
-pub fn front_of(day: Day) -> Front {
-    let mut best = [4_294_967_295u32; ENDS];
+pub fn front_of(day: &Day) -> Front {
+    let mut best = [u32::MAX; ENDS];
     least(day, &mut best);
     unbeaten(&best)
 }

@@ -30,7 +30,7 @@ pub const UNBEATEN: usize = 21;
 
 pub const DIFFERENCES: usize = 22;
 
-#[derive(Drop)]
+#[derive(Clone, Copy)]
 pub struct Tally {
     pub counts: [u32; 24],
 }
@@ -39,7 +39,7 @@ pub struct Tally {
 pub fn add(t: Tally, place: usize, some: u32) -> Tally {
     let mut u = t;
     if place < 24 {
-        u.counts[place] = std::num::wrapping_add_u32(u.counts[place], some);
+        u.counts[place] = u.counts[place].wrapping_add(some);
     }
     u
 }

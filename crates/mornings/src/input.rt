@@ -2,6 +2,8 @@
 ghost use Rattle.std.specs.Prelude.{◌≡◌, length};
 
 use crate::{calls, say};
+use std::io;
+use std::io::Write;
 
 // The most numbers of a line.
 pub const ROOM: usize = 64;
@@ -58,16 +60,22 @@ fn other(s: State, byte: u8) -> State {
 }
 
 // A byte.
-pub fn read(s: State, byte: u8, words: &mut [u32], desk: &mut [u32]) -> State
+pub fn read(
+    out: &mut impl Write,
+    s: State,
+    byte: u8,
+    words: &mut [u32],
+    desk: &mut [u32],
+) -> io::Result<State>
     requires { length words.old ≡ 64 }
 {
-    say::byte(byte);
+    say::byte(out, byte)?;
     match byte {
-        b',' => ended(s, words),
+        b',' => Ok(ended(s, words)),
         b'=' => {
-            calls::call(s.last, words, s.count, desk);
-            LINE
-        },
-        _ => other(s, byte),
+            calls::call(out, s.last, words, s.count, desk)?;
+            Ok(LINE)
+        }
+        _ => Ok(other(s, byte)),
     }
 }

@@ -11,29 +11,33 @@
 // A word of a book is written KIND:VALUE. A comma ends a number, and a call takes the numbers of its own line. Of its name only the last
 // letter counts. A refusal is printed as number@place. After a list or an order come the nine words of the buffer, which are 7 before it.
 #![tactic(auto)]
+
 ghost use Rattle.std.specs.Prelude.{◌≡◌, length};
 
 mod calls;
 mod input;
 mod say;
 
-use libc::STDIN_FILENO;
+use std::io;
+use std::io::Write;
 
-fn run(bytes: &[u8], words: &mut [u32], desk: &mut [u32])
+// The most bytes of the input.
+const BYTES: usize = 65_536;
+
+fn run(out: &mut impl Write, bytes: &[u8], words: &mut [u32], desk: &mut [u32]) -> io::Result<()>
     requires { length words.old ≡ 64 }
 {
     let mut s = input::LINE;
-    let mut i: usize = 0;
-    while i < bytes.len() {
-        s = input::read(s, bytes[i], words, desk);
-        i += 1;
+    for byte in bytes {
+        s = input::read(out, s, *byte, words, desk)?;
     }
+    Ok(())
 }
 
-fn main() {
-    let mut bytes = io::large_buffer();
-    let size = io::read_full(STDIN_FILENO, &mut bytes);
+fn main(rt: HostRuntime) -> io::Result<()> {
+    let mut bytes = [0u8; BYTES];
+    let size = streams::read_full(&mut rt.stdin(), &mut bytes)?;
     let mut words = [0u32; input::ROOM];
     let mut desk = [0u32; open_desk::WORDS];
-    run(&bytes[..size], &mut words, &mut desk);
+    run(&mut rt.stdout(), &bytes[..size], &mut words, &mut desk)
 }

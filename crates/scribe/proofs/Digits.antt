@@ -5,7 +5,7 @@ use native.Mathlib.Numerals.{add-one}
 use native.Mathlib.Omega.{arith}
 use mathlib.Core.Bool.{true, false, ◌&&◌}
 use mathlib.Core.List.{List, [], ◌∷◌}
-use mathlib.Core.Path.{◌≡◌, refl, ap}
+use mathlib.Core.Path.{◌≡◌, refl, ap, sym, ◌∙◌}
 use lib.ListN.{length, drop, get_or}
 use lib.Seq.{drop-cons, drop-length}
 use borrow.Author.Tests.{lt-ltb, le-ltb}
@@ -26,10 +26,10 @@ pub digits_end : (w : List ℕ) (i : ℕ) → i ≡ length w → all_digits (dro
 unfolding all_digits
 digits_end w i e = ap all_digits (ended w i e)
 
-pub decimal_step : (v : ℕ) (w : List ℕ) (i : ℕ) → i < length w → decimal v (drop i w) ≡ decimal (10 * v + (get_or w i 0 - 48))
-    (drop (i + 1) w)
+-- One more digit, d.
+pub decimal_step : (v d : ℕ) (w : List ℕ) (i : ℕ) → i < length w → d ≡ get_or w i 0 - 48 → decimal v (drop i w) ≡ decimal (10 * v + d) (drop (i + 1) w)
 unfolding decimal
-decimal_step v w i h = ap (decimal v) (split w i h)
+decimal_step v d w i h e = ap (decimal v) (split w i h) ∙ ap (λ (n : ℕ). decimal (10 * v + n) (drop (i + 1) w)) (sym e)
 
 pub decimal_end : (v : ℕ) (w : List ℕ) (i : ℕ) → i ≡ length w → decimal v (drop i w) ≡ v
 unfolding decimal

@@ -10,10 +10,12 @@
 // First free, then pace, then 1 to 256 rows, each with its due or with its turnaround class. What values the words have is for the book's
 // reader to judge: here a number has only to fit the 29 bits of a word's value.
 #![tactic(auto)]
+
 ghost use Rattle.std.specs.Prelude.{◌≡◌, ◌+◌, ◌-◌, ◌*◌, ◌%◌, ◌≤◌, ◌<◌, cond, length};
 ghost use Rattle.scribe.specs.Numbers.{is_digit, all_digits, decimal, sized, number_of};
 
-use libc::{STDERR_FILENO, STDIN_FILENO, STDOUT_FILENO};
+use std::io;
+use std::io::Write;
 
 // A word of a line as a number: its value, no word at all, not digits only, or above the 29 bits of a value.
 #[derive(Clone, Copy)]
@@ -491,56 +493,56 @@ fn bytes_of(words: &[u32; Day::WORDS], many: usize) -> [u8; Day::BYTES]
     bytes
 }
 
-fn write_book(words: &[u32; Day::WORDS], rows: usize)
+fn write_book(out: &mut impl Write, words: &[u32; Day::WORDS], rows: usize) -> io::Result<()>
     requires { rows ≤ 256 }
 {
     let many = 4 * rows + 3;
     let size = 4 * many;
     let bytes = bytes_of(words, many);
-    io::write_all(STDOUT_FILENO, &bytes[..size]);
+    out.write_all(&bytes[..size])
 }
 
-fn say(text: &[u8]) {
-    io::write_all(STDERR_FILENO, text);
+fn say(rt: &impl Eprint, text: &str) -> io::Result<()> {
+    rt.eprintln(text)
 }
 
-fn say_wrong(wrong: u32) {
+fn say_wrong(rt: &impl Eprint, wrong: u32) -> io::Result<()> {
     match wrong {
-        Day::UNKNOWN => say(b"unknown word: a line begins with free, pace or row\n"),
+        Day::UNKNOWN => say(rt, "unknown word: a line begins with free, pace or row"),
         Day::MISSING => say(
-            b"a number is missing: free and pace have one, a row has four, or three and class with one\n",
+            rt,
+            "a number is missing: free and pace have one, a row has four, or three and class with one",
         ),
-        Day::STRANGE => say(b"not a number: only the digits 0 to 9 may stand here\n"),
-        Day::LARGE => say(b"number too large for a book: 536870911 is the most\n"),
+        Day::STRANGE => say(rt, "not a number: only the digits 0 to 9 may stand here"),
+        Day::LARGE => say(rt, "number too large for a book: 536870911 is the most"),
         Day::MORE => say(
-            b"too much on this line: free and pace have one number, a row has four, or three and class with one\n",
+            rt,
+            "too much on this line: free and pace have one number, a row has four, or three and class with one",
         ),
-        Day::FREE_AGAIN => say(b"free is there already\n"),
-        Day::PACE_AGAIN => say(b"pace is there already\n"),
-        Day::PACE_FIRST => say(b"pace comes before free\n"),
-        Day::ROW_FIRST => say(b"row comes before free and pace\n"),
-        Day::FULL => say(b"too many rows: 256 is the most\n"),
-        Day::NO_FREE => say(b"the day ends without free\n"),
-        Day::NO_PACE => say(b"the day ends without pace\n"),
-        _ => say(b"the day ends without rows\n"),
+        Day::FREE_AGAIN => say(rt, "free is there already"),
+        Day::PACE_AGAIN => say(rt, "pace is there already"),
+        Day::PACE_FIRST => say(rt, "pace comes before free"),
+        Day::ROW_FIRST => say(rt, "row comes before free and pace"),
+        Day::FULL => say(rt, "too many rows: 256 is the most"),
+        Day::NO_FREE => say(rt, "the day ends without free"),
+        Day::NO_PACE => say(rt, "the day ends without pace"),
+        _ => say(rt, "the day ends without rows"),
     }
 }
 
-fn main() {
-    let mut text = io::large_buffer();
-    let size = io::read_full(STDIN_FILENO, &mut text);
+fn main(rt: HostRuntime) -> io::Result<()> {
+    let mut text = [0u8; Day::TEXT];
+    let size = streams::read_full(&mut rt.stdin(), &mut text)?;
     if size == Day::TEXT {
-        say(b"the day is too long: 65535 bytes is the most\n");
-        return;
+        return say(&rt, "the day is too long: 65535 bytes is the most");
     }
     let mut words = [0u32; Day::WORDS];
     let day = finish(read_lines(&text[..size], &mut words), &mut words);
     if day.wrong == Day::NOTHING {
-        write_book(&words, day.rows);
+        write_book(&mut rt.stdout(), &words, day.rows)
     } else {
-        say(b"line ");
-        io::print_decimal(STDERR_FILENO, day.line as u64);
-        say(b": ");
-        say_wrong(day.wrong);
+        let line = day.line;
+        eprint!(rt; "line {line}: ")?;
+        say_wrong(&rt, day.wrong)
     }
 }
