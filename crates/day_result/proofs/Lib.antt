@@ -1,2 +1,0 @@
-pub mod Idle
-pub mod Days

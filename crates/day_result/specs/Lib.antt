@@ -1,2 +1,0 @@
-pub mod DayResults
-pub mod Lasting

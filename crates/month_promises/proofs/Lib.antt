@@ -1,3 +1,0 @@
-pub mod Streamed
-pub mod Days
-pub mod Promise

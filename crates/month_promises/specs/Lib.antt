@@ -1,4 +1,0 @@
-pub mod Shown
-pub mod Streamed
-pub mod Promise
-pub mod Worked

@@ -1,2 +1,0 @@
-pub mod Postings
-pub mod Days

@@ -1,4 +1,0 @@
-pub mod Levels
-pub mod Report
-pub mod Mean
-pub mod Held

@@ -1,3 +1,0 @@
-pub mod Report
-pub mod Mean
-pub mod Held
