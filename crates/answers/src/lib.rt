@@ -1,5 +1,6 @@
 // What crosses the C boundary: one struct for every answer, and each case of an answer in it.
 #![tactic(auto)]
+
 ghost use Rattle.std.specs.Prelude.{◌≡◌};
 ghost use Rattle.calls.specs.Answers.{said_no, said_list, said_order, said_verdict, said_place};
 ghost use Rattle.open_desk.specs.Answers.{said_open, said_start, said_pace};

@@ -1,6 +1,7 @@
 // The desk after rows in turn; and first come, first due: the one plan of rows in plain columns, by release, then due, then row.
 // Rows are numbered from 1, so columns have 257 places; 0 stands for no row. Latenesses and bounds are raised by 2^31.
 #![tactic(auto)]
+
 ghost use Rattle.std.specs.Prelude.{◌≡◌, ◌++◌, ℕ, ◌≤◌, ◌<◌, length, get_or, take, drop};
 ghost use Rattle.schedule.specs.Limits.{EndsInTime, most_rows, row_places};
 ghost use Rattle.schedule.specs.Rows.{count_from};

@@ -1,5 +1,6 @@
 // Tests 1 to 7: a lent book of 32-bit words becomes the table of its rows, or is refused with a number and a place.
 #![tactic(auto)]
+
 ghost use Rattle.std.specs.Prelude.{◌≡◌, ◌≤◌, ◌<◌, [], length, drop};
 ghost use Rattle.schedule.specs.Limits.{most_rows, least_pace, most_pace};
 ghost use Rattle.schedule.specs.Rows.{no_row};

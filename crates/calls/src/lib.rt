@@ -1,6 +1,7 @@
 // The calls offered to a bureau, by what they are told: one body each for both profiles. Each is lent a book, has no `requires`, and its
 // contract gives its whole outcome: the answer, and every word of the result buffer at exit.
 #![tactic(auto)]
+
 ghost use Rattle.std.specs.Prelude.{◌≡◌};
 ghost use Rattle.outcomes.specs.Planning.{gives};
 ghost use Rattle.calls.specs.Calls.{list_call, bound_call, plan_call, verdict_call};

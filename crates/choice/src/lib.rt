@@ -1,5 +1,6 @@
 // The plans that several desks take within one overtime limit, of their lists in columns: ends and latenesses, the latter raised by 2^31.
 #![tactic(auto)]
+
 ghost use Rattle.std.specs.Prelude.{◌≡◌, ◌≤◌, length, take};
 ghost use Rattle.schedule.specs.Limits.{most_rows, most_desks};
 ghost use Rattle.schedule.specs.Offset.{lowered};

@@ -1,5 +1,6 @@
 // Opening a desk: the rows of an accepted book into a lent run of words.
 #![tactic(auto)]
+
 ghost use Rattle.std.specs.Prelude.{◌≡◌, ℕ, ◌≤◌, List, [], ◌∷◌, length, replicate};
 ghost use Rattle.schedule.specs.Limits.{most_rows, row_places};
 ghost use Rattle.schedule.specs.declared.Row.{Row};

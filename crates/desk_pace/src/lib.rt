@@ -1,5 +1,6 @@
 // A new pace on an open desk, as another reader sits down: the rows left get new lengths, from their pages.
 #![tactic(auto)]
+
 ghost use Rattle.std.specs.Prelude.{◌≡◌, true, cond, ℕ, ◌+◌, ◌*◌, ◌/◌, ◌≤◌, ◌<◌, length, replicate};
 ghost use Rattle.schedule.specs.Limits.{most_rows, row_places, most_pages, least_pace, most_pace, most_opening};
 ghost use Rattle.schedule.specs.declared.Profile.TheVariants.{Ordering};

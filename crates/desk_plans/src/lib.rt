@@ -1,5 +1,6 @@
 // The plans of an open desk: the list of the rows left, and the order of a listed plan.
 #![tactic(auto)]
+
 ghost use Rattle.std.specs.Prelude.{◌≡◌, ◌++◌, map, ℕ, ◌≤◌, ◌<◌, length, take, drop};
 ghost use Rattle.schedule.specs.Limits.{most_rows};
 ghost use Rattle.schedule.specs.Columns.{at};

@@ -1,5 +1,6 @@
 // Starts on an open desk: a row leaves the rows left, and the desk moves to its end.
 #![tactic(auto)]
+
 ghost use Rattle.std.specs.Prelude.{◌≡◌, true, ◌≤◌, length};
 ghost use Rattle.schedule.specs.Limits.{most_rows};
 ghost use Rattle.running.specs.Running.{start_tests};

@@ -1,6 +1,7 @@
 // First come, first due: the calls offered to a bureau in whose books no two rows cross. Each is lent a book, has no `requires`, and its
 // contract gives its whole outcome: the answer, and every word of the result buffer at exit.
 #![tactic(auto)]
+
 ghost use Rattle.std.specs.Prelude.{◌≡◌};
 ghost use Rattle.schedule.specs.declared.Profile.TheVariants.{FirstCome};
 ghost use Rattle.row_calls.specs.Places.{place_call, words_call};

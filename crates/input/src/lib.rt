@@ -1,5 +1,6 @@
 // The input of `slate`, bytes: its words, of which the first 1,028 are looked at, and whether odd bytes are left over.
 #![tactic(auto)]
+
 ghost use Rattle.std.specs.Prelude.{◌≡◌, ◌+◌, ◌≤◌, ◌<◌, length};
 ghost use Rattle.input.specs.Input.{word_at, words_in, odd, Counted};
 

@@ -2,6 +2,7 @@
 // include/jelvaksna.h. A slice crosses as a pointer and a length in words. No call has a `requires`, and its contract gives its whole
 // outcome.
 #![tactic(auto)]
+
 ghost use Rattle.std.specs.Prelude.{◌≡◌};
 ghost use Rattle.schedule.specs.declared.Profile.TheVariants.{Ordering, FirstCome};
 ghost use Rattle.calls.specs.Answers.{said_list, said_order, said_verdict, said_place};

@@ -1,6 +1,7 @@
 // How late the desk can open: the call offered to a bureau, by the ordering rule. It is lent a book, has no `requires`, and its contract
 // gives its whole outcome: the answer, and every word of the result buffer at exit.
 #![tactic(auto)]
+
 ghost use Rattle.std.specs.Prelude.{◌≡◌};
 ghost use Rattle.schedule.specs.Limits.{latest_minute};
 ghost use Rattle.schedule.specs.declared.Profile.TheVariants.{Ordering};

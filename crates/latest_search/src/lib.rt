@@ -3,6 +3,7 @@
 // The working tables are made once a call. The minute is found by halving, with one search for the order for the bound at each minute
 // that is tried: at most 25.
 #![tactic(auto)]
+
 ghost use Rattle.std.specs.Prelude.{◌≡◌, ◌&&◌, ◌+◌, ◌≤◌, leb, length};
 ghost use Rattle.schedule.specs.Limits.{most_rows};
 ghost use Rattle.schedule.specs.Rows.{count_from};

@@ -1,6 +1,7 @@
 // The lines that `slate` prints, made one after another in a sheet of bytes. Each function adds to a sheet that has `at` bytes, and gives
 // how many it then has; its contract gives the bytes that it adds outright.
 #![tactic(auto)]
+
 ghost use Rattle.std.specs.Prelude.{◌+◌, ◌*◌, ◌≤◌, length};
 ghost use Rattle.schedule.specs.Limits.{most_rows};
 ghost use Rattle.results.specs.Results.{signed};

@@ -1,6 +1,7 @@
 // The list of plans of rows that stand by rank, where a row's number is its rank: found with ever smaller bounds, along a trail of blocks.
 // Rows are numbered from 1, so columns have 257 places; 0 stands for no row. Latenesses and bounds are raised by 2^31.
 #![tactic(auto)]
+
 ghost use Rattle.std.specs.Prelude.{◌≡◌, length, ◌≤◌, ◌<◌};
 ghost use Rattle.schedule.specs.Limits.{EndsInTime, most_rows};
 ghost use Rattle.schedule.specs.Rows.{count_from};

@@ -1,6 +1,7 @@
 // The calls of an open desk: opening it with a book, starting a row, a change of pace, the list of the rows left, and the order of a listed
 // plan. Each has no `requires`, and its contract gives its whole outcome for every content of the lent words.
 #![tactic(auto)]
+
 ghost use Rattle.std.specs.Prelude.{◌≡◌};
 ghost use Rattle.outcomes.specs.Planning.{gives};
 ghost use Rattle.desk_open.specs.Opens.{open_call};

@@ -1,6 +1,7 @@
 // What the calls give once it is known what is planned, of rows in plain columns by a profile, wherever the rows come from. Each contract
 // gives the whole outcome: the answer, and every word of the result buffer at exit.
 #![tactic(auto)]
+
 ghost use Rattle.std.specs.Prelude.{◌≡◌, ◌≤◌, length, take};
 ghost use Rattle.schedule.specs.Limits.{most_rows};
 ghost use Rattle.schedule.specs.Plans.{first_beating};

@@ -1,5 +1,6 @@
 // The test of row pairs, over two columns: the earliest row that clashes with any row above it. Tests 8 and 13 are such tests.
 #![tactic(auto)]
+
 ghost use Rattle.std.specs.Prelude.{◌≡◌, ◌-◌, ◌≤◌, length};
 ghost use Rattle.schedule.specs.Limits.{most_rows, row_places};
 ghost use Rattle.pairs.specs.Columns.{pair_clashes, any_clashes, some_clash, ColumnsTested};

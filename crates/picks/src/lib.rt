@@ -2,6 +2,7 @@
 // released rows left over are bits of five words, and a cursor stands in the rows by release. `take` changes the words in place: giving
 // rows back is keeping a copy of the desk as it was.
 #![tactic(auto)]
+
 ghost use Rattle.std.specs.Prelude.{◌≡◌, Bool, true, false, ℕ, ◌+◌, ◌≤◌, ◌<◌};
 ghost use mathlib.Core.List.{List, Memᴰ};
 ghost use Rattle.theory.specs.Jobs.{Job};

@@ -1,6 +1,7 @@
 // The calls offered to a bureau, by the ordering rule. Each is lent a book, has no `requires`, and its contract gives its whole outcome:
 // the answer, and every word of the result buffer at exit.
 #![tactic(auto)]
+
 ghost use Rattle.std.specs.Prelude.{◌≡◌};
 ghost use Rattle.schedule.specs.declared.Profile.TheVariants.{Ordering};
 ghost use Rattle.row_calls.specs.Places.{place_call, words_call};

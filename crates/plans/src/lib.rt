@@ -2,6 +2,7 @@
 // Rows are numbered from 1, so columns have 257 places; 0 stands for no row. Latenesses and bounds are raised by 2^31.
 // By the ordering rule the search goes over columns in the order of rank, which are made once a call; by arrival there is one plan.
 #![tactic(auto)]
+
 ghost use Rattle.std.specs.Prelude.{◌≡◌, ◌++◌, map, ℕ, ◌≤◌, ◌<◌, length, get_or, take, drop};
 ghost use Rattle.schedule.specs.Limits.{EndsInTime, most_rows};
 ghost use Rattle.schedule.specs.Rows.{count_from};

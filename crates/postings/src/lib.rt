@@ -1,5 +1,6 @@
 // Postings: an order posted by hand, as a list of row numbers, and the test that it has every row once.
 #![tactic(auto)]
+
 ghost use Rattle.std.specs.Prelude.{◌≡◌, false, ◌||◌, [], ◌≤◌, eqb, ltb, length, get_or};
 ghost use Rattle.schedule.specs.Limits.{most_rows, row_places};
 ghost use Rattle.postings.specs.Posting.{entry_tests, posting_tests};

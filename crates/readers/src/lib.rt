@@ -1,5 +1,6 @@
 // The readers of both profiles: a book by the terms of a call, as its rows in columns or the refusal.
 #![tactic(auto)]
+
 ghost use Rattle.std.specs.Prelude.{◌≡◌, ℕ, ◌≤◌, length};
 ghost use Rattle.schedule.specs.Limits.{most_rows, row_places, latest_minute, longest_length, longest_time, latest_due, most_opening};
 ghost use Rattle.schedule.specs.Columns.{at, columns};

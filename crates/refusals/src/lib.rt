@@ -1,5 +1,6 @@
 // The table of refusals: the number that each has, and tests that run one after another.
 #![tactic(auto)]
+
 ghost use Rattle.std.specs.Prelude.{◌≡◌};
 ghost use Rattle.refusals.specs.Tests.{refuse_if, ◌then◌};
 

@@ -1,5 +1,6 @@
 // What a list of plans becomes: the words of a result buffer, and the first plan that beats a pair.
 #![tactic(auto)]
+
 ghost use Rattle.std.specs.Prelude.{◌≡◌, ◌*◌, ◌≤◌, length, take};
 ghost use Rattle.schedule.specs.Limits.{most_rows};
 ghost use Rattle.schedule.specs.Offset.{lowered};

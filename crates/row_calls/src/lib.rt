@@ -1,5 +1,6 @@
 // The calls for a row by its number, of either profile: the place of its number word, and the part of the book that holds its words.
 #![tactic(auto)]
+
 ghost use Rattle.std.specs.Prelude.{◌≡◌};
 ghost use Rattle.row_calls.specs.Places.{place_call, row_words_at, words_call};
 ghost use Rattle.row_calls.specs.Cited.{WordsInside, PlaceAmong};

@@ -1,5 +1,6 @@
 // The row reader: the four words of a row become a row of the table, or are refused. As in `words`, `rest` is the book from `place` on.
 #![tactic(auto)]
+
 ghost use Rattle.std.specs.Prelude.{◌≡◌, ◌≤◌, ◌<◌, length, take};
 ghost use Rattle.schedule.specs.Limits.{latest_minute, longest_length, most_rows, most_pages, least_pace, most_pace};
 ghost use Rattle.words.specs.Words.{value, word};

@@ -1,5 +1,6 @@
 // The rows left on a lent desk, gathered into columns: row numbers stand beside them.
 #![tactic(auto)]
+
 ghost use Rattle.std.specs.Prelude.{◌≡◌, true, cond, ℕ, ◌+◌, ◌≤◌, ◌<◌, length, set, replicate};
 ghost use Rattle.schedule.specs.Limits.{most_rows, row_places, latest_minute, longest_time, latest_due, latest_stand};
 ghost use Rattle.schedule.specs.Columns.{at, columns};

@@ -1,5 +1,6 @@
 // The words of a lent desk: where each number stands, and whether a run of words holds a desk.
 #![tactic(auto)]
+
 ghost use Rattle.std.specs.Prelude.{◌≡◌, ◌+◌, ◌≤◌, ◌<◌, length, take, drop};
 ghost use Rattle.schedule.specs.Limits.{most_rows, row_places, most_opening};
 ghost use Rattle.running.specs.Running.{between};

@@ -1,5 +1,6 @@
 // The desk of one reader: rows, and the desk's minute and worst lateness while rows are taken one after another.
 #![tactic(auto)]
+
 ghost use Rattle.std.specs.Prelude.{◌≡◌, ◌≤◌, max};
 ghost use Rattle.schedule.specs.Offset.{raised, lowered, desk_at, desk_after};
 

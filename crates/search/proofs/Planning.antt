@@ -1,6 +1,6 @@
 -- The search for the order for a bound: what it keeps from block to block, and how it begins, goes on and ends.
 -- Assumes nothing.
-use Prim.Native.Nat.{ℕ, ◌+◌, ◌≤◌, ◌<◌}
+use Prim.Native.Nat.{ℕ, ◌≤◌, ◌<◌}
 use native.Mathlib.Omega.{arith}
 use mathlib.Core.Bool.{cond, false}
 use mathlib.Core.Path.{◌≡◌, sym, ap, ◌∙◌, subst}

@@ -1,6 +1,7 @@
 // The search over rows that stand by rank, where a row's number is its rank: runs, blocks, and the order for a bound.
 // Rows are numbered from 1, so columns have 257 places; 0 stands for no row. Latenesses and bounds are raised by 2^31.
 #![tactic(auto)]
+
 ghost use Rattle.std.specs.Prelude.{◌≡◌, true, false, ◌||◌, ℕ, ◌+◌, ◌-◌, ◌≤◌, ◌<◌, leb, eqb, length, get_or, take};
 ghost use mathlib.Core.List.{List, Memᴰ};
 ghost use Rattle.schedule.specs.Limits.{EndsInTime, most_rows, row_places};

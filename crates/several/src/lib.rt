@@ -1,6 +1,7 @@
 // Several desks, one overtime limit: the call offered to a bureau that plans its desks together. It has no `requires`, and its contract
 // gives its whole outcome: the answer, and every word of the result buffer at exit.
 #![tactic(auto)]
+
 ghost use Rattle.std.specs.Prelude.{◌≡◌, List, ℕ, ◌≤◌, length};
 ghost use Rattle.schedule.specs.Limits.{most_desks};
 ghost use Rattle.schedule.specs.Rows.{Day};

@@ -1,5 +1,6 @@
 // The books of several desks, lent end to end in one run: the rows and the list of each desk, read desk by desk.
 #![tactic(auto)]
+
 ghost use Rattle.std.specs.Prelude.{◌≡◌, ◌≤◌, ◌<◌, length};
 ghost use Rattle.schedule.specs.Limits.{most_desks};
 ghost use Rattle.readers.specs.Reads.{ordering_rule};

@@ -1,5 +1,6 @@
 // What is lent for several desks: whether all of it that concerns no single book is right.
 #![tactic(auto)]
+
 ghost use Rattle.std.specs.Prelude.{◌≡◌, ◌≤◌, length};
 ghost use Rattle.schedule.specs.Limits.{most_desks};
 ghost use Rattle.several_lent.specs.Lent.{total, all_open, lent_amiss};

@@ -1,5 +1,6 @@
 // The orders of several desks, written desk after desk.
 #![tactic(auto)]
+
 ghost use Rattle.std.specs.Prelude.{◌≡◌, ◌≤◌, length};
 ghost use mathlib.Core.List.{flatten};
 ghost use Rattle.schedule.specs.Limits.{most_desks};

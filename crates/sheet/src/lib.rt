@@ -1,6 +1,7 @@
 // The lines that `slate` prints, all of them, from the bytes of an input. `fill` is the one function offered: it has no `requires`, and
 // its contract gives every byte.
 #![tactic(auto)]
+
 ghost use Rattle.std.specs.Prelude.{◌≡◌, map, ℕ, ◌+◌, ◌*◌, ◌≤◌, length, get_or, replicate};
 ghost use Rattle.schedule.specs.Limits.{most_rows, row_places};
 ghost use Rattle.schedule.specs.Rows.{row};

@@ -1,6 +1,7 @@
 // Prints the plans of the book on standard input: its rows and plans counted, then a line for each plan; or the refusal. `sheet::fill`
 // gives every byte of it, so only the reading and the writing are taken on trust.
 #![tactic(auto)]
+
 use sheet::SHEET;
 use std::io;
 use std::io::Write;

@@ -1,6 +1,7 @@
 // The search along a trail of blocks, over rows that stand by rank: set out with a bound, and taken up again with a smaller one.
 // Rows are numbered from 1, so columns have 257 places; 0 stands for no row. Latenesses and bounds are raised by 2^31.
 #![tactic(auto)]
+
 ghost use Rattle.std.specs.Prelude.{◌≡◌, Bool, length, ℕ, ◌≤◌, ◌<◌};
 ghost use Rattle.schedule.specs.Limits.{EndsInTime, most_rows};
 ghost use Rattle.schedule.specs.Columns.{at, columns, Limits};

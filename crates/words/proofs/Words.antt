@@ -9,7 +9,7 @@ use lib.ListN.{length}
 use borrow.Author.Tests.{ltb-false, leb-false}
 use Rattle.refusals.specs.declared.Tested.TheVariants.{Passed}
 use Rattle.refusals.specs.Refusals.{by_range}
-use Rattle.refusals.specs.Tests.{refuse_if, ◌then◌}
+use Rattle.refusals.specs.Tests.{refuse_if}
 use Rattle.refusals.proofs.Tests.{never, then_left, then_right, not_refused}
 use Rattle.words.specs.Words.{value, word}
 use Rattle.words.specs.WordTests.{outside, kind_tests, word_tests}

@@ -1,5 +1,6 @@
 // The words of a book: kind and value, and the tests 1 to 3 at a word.
 #![tactic(auto)]
+
 ghost use Rattle.std.specs.Prelude.{◌≡◌, ◌≤◌, ◌<◌};
 ghost use Rattle.words.specs.Words.{kind, value, word};
 ghost use Rattle.words.specs.WordTests.{last_start, outside, kind_tests, word_tests};

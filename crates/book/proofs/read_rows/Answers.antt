@@ -56,8 +56,11 @@ returns-then-end_stands c =
     ∙ reached_end l.invariant.1 e
 
 pub offset_bounds-numbers-count : goal.offset_bounds-numbers-count
-offset_bounds-numbers-count c = omega (arith, reached_room c.loop-numbers.invariant.1 (whole_tests _ _ _ (sym c.in-Whole.is ∙
-    row_is c.loop-numbers.count c.loop-numbers.at c.args.pace c.loop-numbers.at c.loop-numbers.numbers c.args.book.now c.read_row.ensures)))
+offset_bounds-numbers-count c = omega (
+  arith,
+  reached_room c.loop-numbers.invariant.1 (whole_tests _ _ _ (sym c.in-Whole.is ∙
+      row_is c.loop-numbers.count c.loop-numbers.at c.args.pace c.loop-numbers.at c.loop-numbers.numbers c.args.book.now c.read_row.ensures)),
+)
 
 pub bounds-numbers-count : goal.bounds-numbers-count
 bounds-numbers-count c =
@@ -65,8 +68,11 @@ bounds-numbers-count c =
     row_is c.loop-numbers.count c.loop-numbers.at c.args.pace c.loop-numbers.at c.loop-numbers.numbers c.args.book.now c.read_row.ensures))
 
 pub offset_bounds-rows-count : goal.offset_bounds-rows-count
-offset_bounds-rows-count c = omega (arith, reached_room c.loop-numbers.invariant.1 (whole_tests _ _ _ (sym c.in-Whole.is ∙
-    row_is c.loop-numbers.count c.loop-numbers.at c.args.pace c.loop-numbers.at c.loop-numbers.numbers c.args.book.now c.read_row.ensures)))
+offset_bounds-rows-count c = omega (
+  arith,
+  reached_room c.loop-numbers.invariant.1 (whole_tests _ _ _ (sym c.in-Whole.is ∙
+      row_is c.loop-numbers.count c.loop-numbers.at c.args.pace c.loop-numbers.at c.loop-numbers.numbers c.args.book.now c.read_row.ensures)),
+)
 
 pub bounds-rows-count : goal.bounds-rows-count
 bounds-rows-count c =
@@ -78,27 +84,36 @@ returns-in-Refused c =
     c.refused.ensures ∙ reached_refused c.loop-numbers.invariant.1 c.in-Refused.n c.in-Refused.p
     (stop c.loop-numbers.count c.loop-numbers.at c.args.book.now c.end_stands.ensures c.if-end_stands.false)
     (refused_tests _ _ _ _ (sym c.in-Refused.is ∙ row_is c.loop-numbers.count c.loop-numbers.at c.args.pace c.loop-numbers.at
-        c.loop-numbers.numbers c.args.book.now c.read_row.ensures))
+    c.loop-numbers.numbers c.args.book.now c.read_row.ensures))
 
 pub overflow_add-count : goal.overflow_add-count
-overflow_add-count c = omega (arith, reached_room c.loop-numbers.invariant.1 (whole_tests _ _ _ (sym c.in-Whole.is ∙
-    row_is c.loop-numbers.count c.loop-numbers.at c.args.pace c.loop-numbers.at c.loop-numbers.numbers c.args.book.now c.read_row.ensures)))
+overflow_add-count c = omega (
+  arith,
+  reached_room c.loop-numbers.invariant.1 (whole_tests _ _ _ (sym c.in-Whole.is ∙
+      row_is c.loop-numbers.count c.loop-numbers.at c.args.pace c.loop-numbers.at c.loop-numbers.numbers c.args.book.now c.read_row.ensures)),
+)
 
 pub overflow_add-at : goal.overflow_add-at
-overflow_add-at c = omega (arith, long c.loop-numbers.at _ c.args.book.now (whole_tests _ _ _ (sym c.in-Whole.is ∙
-    row_is c.loop-numbers.count c.loop-numbers.at c.args.pace c.loop-numbers.at c.loop-numbers.numbers c.args.book.now c.read_row.ensures)))
+overflow_add-at c = omega (
+  arith,
+  long c.loop-numbers.at _ c.args.book.now (whole_tests _ _ _ (sym c.in-Whole.is ∙
+      row_is c.loop-numbers.count c.loop-numbers.at c.args.pace c.loop-numbers.at c.loop-numbers.numbers c.args.book.now c.read_row.ensures)),
+)
 
 pub loop-numbers-smaller : goal.loop-numbers-smaller
-loop-numbers-smaller c = omega (arith, long c.loop-numbers.at _ c.args.book.now (whole_tests _ _ _ (sym c.in-Whole.is ∙
-    row_is c.loop-numbers.count c.loop-numbers.at c.args.pace c.loop-numbers.at c.loop-numbers.numbers c.args.book.now c.read_row.ensures)))
+loop-numbers-smaller c = omega (
+  arith,
+  long c.loop-numbers.at _ c.args.book.now (whole_tests _ _ _ (sym c.in-Whole.is ∙
+      row_is c.loop-numbers.count c.loop-numbers.at c.args.pace c.loop-numbers.at c.loop-numbers.numbers c.args.book.now c.read_row.ensures)),
+)
 
 pub loop-numbers-preserved : goal.loop-numbers-preserved
 loop-numbers-preserved c =
     let l = c.loop-numbers in
     let b = c.args.book.now in (
       long c.loop-numbers.at _ c.args.book.now (whole_tests _ _ _ (sym c.in-Whole.is ∙
-    row_is c.loop-numbers.count c.loop-numbers.at c.args.pace c.loop-numbers.at c.loop-numbers.numbers c.args.book.now c.read_row.ensures)),
+          row_is c.loop-numbers.count c.loop-numbers.at c.args.pace c.loop-numbers.at c.loop-numbers.numbers c.args.book.now c.read_row.ensures)),
       rw (whole_row _ _ _ (sym c.in-Whole.is ∙ row_is c.loop-numbers.count c.loop-numbers.at c.args.pace c.loop-numbers.at c.loop-numbers.numbers c.args.book.now c.read_row.ensures), ← drop-drop 4 l.at b)
           (reached_on l.invariant.1 (stop c.loop-numbers.count c.loop-numbers.at c.args.book.now c.end_stands.ensures c.if-end_stands.false) (whole_tests _ _ _ (sym c.in-Whole.is ∙
-    row_is c.loop-numbers.count c.loop-numbers.at c.args.pace c.loop-numbers.at c.loop-numbers.numbers c.args.book.now c.read_row.ensures))),
+          row_is c.loop-numbers.count c.loop-numbers.at c.args.pace c.loop-numbers.at c.loop-numbers.numbers c.args.book.now c.read_row.ensures))),
     )

@@ -37,11 +37,15 @@ overflow_sub-bound c = (let l = c.loop-late in
     (sym c.first_plans.ensures.0 ∙ c.in-Plans.is) c.if-limit-sum.false).stands.low
 
 pub loop-late-smaller : goal.loop-late-smaller
-loop-late-smaller c = omega (arith, (let l = c.loop-late in
-    goes c.args.plans.now c.args.fronts.now c.args.closings.now c.args.limit c.requires.2 c.requires.0 l.bound _ _
-    (sym c.first_plans.ensures.0 ∙ c.in-Plans.is) c.if-limit-sum.false).within, (let l = c.loop-late in
-    goes c.args.plans.now c.args.fronts.now c.args.closings.now c.args.limit c.requires.2 c.requires.0 l.bound _ _
-    (sym c.first_plans.ensures.0 ∙ c.in-Plans.is) c.if-limit-sum.false).stands.low)
+loop-late-smaller c = omega (
+  arith,
+  (let l = c.loop-late in
+      goes c.args.plans.now c.args.fronts.now c.args.closings.now c.args.limit c.requires.2 c.requires.0 l.bound _ _
+      (sym c.first_plans.ensures.0 ∙ c.in-Plans.is) c.if-limit-sum.false).within,
+  (let l = c.loop-late in
+      goes c.args.plans.now c.args.fronts.now c.args.closings.now c.args.limit c.requires.2 c.requires.0 l.bound _ _
+      (sym c.first_plans.ensures.0 ∙ c.in-Plans.is) c.if-limit-sum.false).stands.low,
+)
 
 pub loop-late-preserved : goal.loop-late-preserved
 loop-late-preserved c =

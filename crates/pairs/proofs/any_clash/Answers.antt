@@ -1,6 +1,5 @@
 -- `any_clash` meets its contract: each turn of the loop compares one row more with the rows above it.
 -- Assumes nothing.
-use Prim.Native.Nat.{◌≤◌, ◌-◌}
 use native.Mathlib.Omega.{arith}
 use mathlib.Core.Path.{◌≡◌, sym}
 use borrow.Author.Rules.{rules}

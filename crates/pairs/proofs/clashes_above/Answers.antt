@@ -1,6 +1,5 @@
 -- `clashes_above` meets its contract: each turn of the loop compares one row more.
 -- Assumes nothing.
-use Prim.Native.Nat.{◌≤◌, ◌-◌}
 use native.Mathlib.Omega.{arith}
 use mathlib.Core.Path.{◌≡◌, sym}
 use borrow.Author.Rules.{rules}

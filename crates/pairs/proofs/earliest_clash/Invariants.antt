@@ -1,7 +1,7 @@
 -- `earliest_clash` meets its contract: the scan stops at the first row that clashes with a row above it.
 -- Assumes nothing.
 use Prim.Native.Nat.{◌≤◌, ◌+◌, ◌-◌}
-use mathlib.Core.Path.{◌≡◌, ◌∙◌}
+use mathlib.Core.Path.{◌≡◌}
 use mathlib.Core.Bool.{false}
 use Rattle.pairs.specs.Columns.{any_clashes}
 use Rattle.pairs.proofs.Columns.{ScanAt}

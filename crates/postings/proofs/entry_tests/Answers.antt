@@ -1,6 +1,6 @@
 -- `entry_tests` meets its contract. The invariant: the marks are those of the entries passed, and what the tests say from here on is what
 -- they say from the first entry on. The measure is what is left of the posting. Assumes nothing.
-use Prim.Native.Nat.{ℕ, ◌≤◌, ◌-◌}
+use Prim.Native.Nat.{ℕ, ◌≤◌}
 use native.Mathlib.Omega.{arith}
 use mathlib.Core.Bool.{Bool, true, false, ◌||◌}
 use mathlib.Core.Path.{◌≡◌, refl, sym, ap, ◌∙◌}

@@ -1,9 +1,8 @@
 -- `entry_tests` meets its contract. The invariant: the marks are those of the entries passed, and what the tests say from here on is what
 -- they say from the first entry on. The measure is what is left of the posting. Assumes nothing.
 use Prim.Native.Nat.{ℕ, ◌≤◌, ◌-◌}
-use mathlib.Core.Bool.{◌||◌}
-use mathlib.Core.Path.{◌≡◌, ◌∙◌}
-use mathlib.Core.List.{List, [], ◌∷◌}
+use mathlib.Core.Path.{◌≡◌}
+use mathlib.Core.List.{List, []}
 use lib.ListN.{length, drop}
 use Rattle.schedule.specs.Limits.{row_places}
 use Rattle.postings.specs.Posting.{entry_tests}

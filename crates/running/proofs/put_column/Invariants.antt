@@ -1,7 +1,7 @@
 -- `put_column` meets its contract: each turn of the loop puts one word more.
 -- Assumes nothing.
 use Prim.Native.Nat.{◌≤◌, ◌+◌, ◌-◌}
-use mathlib.Core.Path.{◌≡◌, ◌∙◌}
+use mathlib.Core.Path.{◌≡◌}
 use lib.ListN.{length, take, drop}
 use Rattle.running.specs.Words.{put}
 use Rattle.running.proofs.put_column.Given as goal

@@ -11,15 +11,19 @@ picks-p-requires c =
 pub block_on-requires : goal.block_on-requires
 block_on-requires c =
     let g = c.requires.by_index.0 in
-    let q = c.picks-p.ensures _ _ _ c.requires.tables g.1.stands g.1.late in record { limits = c.requires.limits; tables = c.requires.tables; by_index = (
-          (
-            _,
-            g.1,
-            second_mem _ _ _ c.requires.tables _ _ g.1 _ q.1
-                (torn_second _ _ _ c.requires.tables _ _ g.1 _ _ q.0 q.1 g.2),
-          ),
-          c.requires.by_index.1,
-        ) }
+    let q = c.picks-p.ensures _ _ _ c.requires.tables g.1.stands g.1.late in record {
+      limits = c.requires.limits;
+      tables = c.requires.tables;
+      by_index = (
+        (
+          _,
+          g.1,
+          second_mem _ _ _ c.requires.tables _ _ g.1 _ q.1
+              (torn_second _ _ _ c.requires.tables _ _ g.1 _ _ q.0 q.1 g.2),
+        ),
+        c.requires.by_index.1,
+      );
+    }
 
 pub returns : goal.returns
 returns c = λ rest g torn.

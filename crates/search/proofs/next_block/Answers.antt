@@ -12,15 +12,19 @@ picks-p-requires c =
 pub block_on-one-requires : goal.block_on-one-requires
 block_on-one-requires c =
     let g = c.requires.by_index.0 in
-    let q = c.picks-p.ensures _ _ _ c.requires.tables g.1.stands g.1.late in record { limits = c.requires.limits; tables = c.requires.tables; by_index = (
-          (
-            _,
-            g.1,
-            first_mem _ _ _ c.requires.tables _ _ g.1 _ q.0
-                (torn_first _ _ _ c.requires.tables _ _ g.1 _ _ q.0 q.1 g.2),
-          ),
-          c.requires.by_index.1,
-        ) }
+    let q = c.picks-p.ensures _ _ _ c.requires.tables g.1.stands g.1.late in record {
+      limits = c.requires.limits;
+      tables = c.requires.tables;
+      by_index = (
+        (
+          _,
+          g.1,
+          first_mem _ _ _ c.requires.tables _ _ g.1 _ q.0
+              (torn_first _ _ _ c.requires.tables _ _ g.1 _ _ q.0 q.1 g.2),
+        ),
+        c.requires.by_index.1,
+      );
+    }
 
 pub returns-then-one-bound : goal.returns-then-one-bound
 returns-then-one-bound c = λ rest g torn.
@@ -32,15 +36,19 @@ pub block_on-two-requires : goal.block_on-two-requires
 block_on-two-requires c =
     let g = c.requires.by_index.0 in
     let q = c.picks-p.ensures _ _ _ c.requires.tables g.1.stands g.1.late in
-    let m = first_mem _ _ _ c.requires.tables _ _ g.1 _ q.0 (torn_first _ _ _ c.requires.tables _ _ g.1 _ _ q.0 q.1 g.2) in record { limits = c.requires.limits; tables = c.requires.tables; by_index = (
-          (
-            _,
-            g.1,
-            second_mem _ _ _ c.requires.tables _ _ g.1 _ q.1
-                (torn_second _ _ _ c.requires.tables _ _ g.1 _ _ q.0 q.1 g.2),
-          ),
-          (c.block_on-one.ensures _ g.1 m).1.places,
-        ) }
+    let m = first_mem _ _ _ c.requires.tables _ _ g.1 _ q.0 (torn_first _ _ _ c.requires.tables _ _ g.1 _ _ q.0 q.1 g.2) in record {
+      limits = c.requires.limits;
+      tables = c.requires.tables;
+      by_index = (
+        (
+          _,
+          g.1,
+          second_mem _ _ _ c.requires.tables _ _ g.1 _ q.1
+              (torn_second _ _ _ c.requires.tables _ _ g.1 _ _ q.0 q.1 g.2),
+        ),
+        (c.block_on-one.ensures _ g.1 m).1.places,
+      );
+    }
 
 pub returns : goal.returns
 returns c = λ rest g torn.

@@ -1,6 +1,5 @@
 -- `plan_for` meets its contract: from each desk the blocks still to come lead to the order for the bound. Each block takes a row.
 -- Assumes nothing.
-use Prim.Native.Nat.{◌-◌}
 use native.Mathlib.Omega.{arith}
 use Rattle.search.proofs.Planning.{planning_first, planning_torn, planning_next, searched_over, searched_kept}
 use Rattle.search.proofs.plan_for.Goals as goal
@@ -30,14 +29,18 @@ returns-then-s-n c =
 pub next_block-b-requires : goal.next_block-b-requires
 next_block-b-requires c =
     let g = c.loop-s.invariant in
-    let h = g.kept c.if-bound-s.false in record { limits = c.requires.limits; tables = c.requires.tables; by_index = (
-          (
-            h.rest,
-            h.way.sits,
-            planning_torn _ _ _ c.requires.limits _ _ _ _ g c.if-bound-s.false c.if-s-n.false,
-          ),
-          g.places,
-        ) }
+    let h = g.kept c.if-bound-s.false in record {
+      limits = c.requires.limits;
+      tables = c.requires.tables;
+      by_index = (
+        (
+          h.rest,
+          h.way.sits,
+          planning_torn _ _ _ c.requires.limits _ _ _ _ g c.if-bound-s.false c.if-s-n.false,
+        ),
+        g.places,
+      );
+    }
 
 pub loop-s-smaller : goal.loop-s-smaller
 loop-s-smaller c =

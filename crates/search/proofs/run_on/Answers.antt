@@ -1,9 +1,7 @@
 -- `run_on` meets its contract: what the run from the desk leads to is what the run from the beginning leads to. Each turn takes a row.
 -- Assumes nothing.
-use Prim.Native.Nat.{◌-◌}
 use mathlib.Core.Path.{sym, ◌∙◌}
 use native.Mathlib.Omega.{arith}
-use borrow.Author.Tests.{not-true, not-false}
 use Rattle.search.proofs.Picked.{row_high, room, none_left, first_mem, first_within_lem, second_within, deciding}
 use Rattle.search.proofs.Steps.{toward_first, ran_over, ran_none, ran_torn, toward_next, toward_less}
 use Rattle.search.proofs.run_on.Goals as goal

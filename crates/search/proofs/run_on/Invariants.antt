@@ -2,7 +2,6 @@
 -- Assumes nothing.
 use Prim.Native.Nat.{ℕ, ◌-◌}
 use mathlib.Core.List.{List}
-use mathlib.Core.Path.{◌∙◌}
 use Rattle.schedule.specs.Columns.{at, columns}
 use Rattle.picks.specs.Standing.{Sits}
 use Rattle.search.proofs.Steps.{Toward}

@@ -15,7 +15,10 @@ use Rattle.sheet.proofs.order_numbers.Goals as goal
 
 pub returns : goal.returns
 returns c =
-    let a = c.args in record { order_len_unchanged = search rules; order_after = c.name_rows.ensures ∙ ap (map (λ i. get_or a.numbers.now i 0))
+    let a = c.args in record {
+      order_len_unchanged = search rules;
+      order_after = c.name_rows.ensures ∙ ap (map (λ i. get_or a.numbers.now i 0))
           (ap (λ (o : Outcome OrderAnswer). o.buffer) c.order_for_bound.ensures ∙ ap
           (λ (y : ℤ). (bound_call slate_terms a.book.now y a.order.now).buffer)
-          (signed_word a.late (omega arith) c.signed_of.result c.signed_of.ensures)) }
+          (signed_word a.late (omega arith) c.signed_of.result c.signed_of.ensures));
+    }

@@ -13,13 +13,12 @@ back_to-k-requires c =
     omega (arith, lowered_room _ _ _ c.requires.limits _ _ _ _ _ c.requires.order_len.2.2, c.requires.order_len.1)
 
 pub returns-then-k-eq0 : goal.returns-then-k-eq0
-returns-then-k-eq0 c =
-    (
-      c.requires.order_len.0,
-      c.requires.order_len.1,
-      λ free before g. ended_opening _ _ _ c.requires.limits free before _ _ _ g _ c.back_to-k.ensures
-          c.if-k-eq0.true,
-    )
+returns-then-k-eq0 c = (
+  c.requires.order_len.0,
+  c.requires.order_len.1,
+  λ free before g. ended_opening _ _ _ c.requires.limits free before _ _ _ g _ c.back_to-k.ensures
+      c.if-k-eq0.true,
+)
 
 pub offset_bounds-trail-k : goal.offset_bounds-trail-k
 offset_bounds-trail-k c =
@@ -54,14 +53,18 @@ block_two-two-requires c =
     let fits = sits_fit _ _ _ c.requires.tables _ _ from.way.sits in
     let s = c.desk_of-s.ensures from.from from.second fits from.held in
     let back = c.back_to-k.ensures in
-    let z = c.if-w-ne0.false in record { limits = c.requires.limits; tables = c.requires.tables; by_index = (
-          (
-            from.rest,
-            from_sits _ _ _ c.requires.limits _ _ _ _ _ g.2 _ back _ is z _ s,
-            from_torn _ _ _ c.requires.limits _ _ _ _ _ g.2 _ back _ is z _ s,
-          ),
-          c.requires.order_len.0,
-        ) }
+    let z = c.if-w-ne0.false in record {
+      limits = c.requires.limits;
+      tables = c.requires.tables;
+      by_index = (
+        (
+          from.rest,
+          from_sits _ _ _ c.requires.limits _ _ _ _ _ g.2 _ back _ is z _ s,
+          from_torn _ _ _ c.requires.limits _ _ _ _ _ g.2 _ back _ is z _ s,
+        ),
+        c.requires.order_len.0,
+      );
+    }
 
 pub offset_bounds-trail-k-2 : goal.offset_bounds-trail-k-2
 offset_bounds-trail-k-2 c =
@@ -95,16 +98,20 @@ onward-requires c =
     let back = c.back_to-k.ensures in
     let z = c.if-w-ne0.false in
     let t = c.block_two-two.ensures _ (from_sits _ _ _ c.requires.limits _ _ _ _ _ g.2 _ back _ is z _ s)
-    (from_torn _ _ _ c.requires.limits _ _ _ _ _ g.2 _ back _ is z _ s) in record { limits = c.requires.limits; tables = c.requires.tables; order_len = (
-          t.1.places,
-          simp length-set c.requires.order_len.1,
-          (
-            g.0,
-            came_resumed _ _ _ c.requires.limits _ _ _ _ _ g.2 _ back _ is z _ s
-                (omega (arith, lowered_room _ _ _ c.requires.limits _ _ _ _ _ g.2, back.some, c.requires.order_len.1)) _ _ _ t _
-                (c.words_of.ensures (from_sits _ _ _ c.requires.limits _ _ _ _ _ g.2 _ back _ is z _ s).stands.words.size),
-          ),
-        ) }
+    (from_torn _ _ _ c.requires.limits _ _ _ _ _ g.2 _ back _ is z _ s) in record {
+      limits = c.requires.limits;
+      tables = c.requires.tables;
+      order_len = (
+        t.1.places,
+        simp length-set c.requires.order_len.1,
+        (
+          g.0,
+          came_resumed _ _ _ c.requires.limits _ _ _ _ _ g.2 _ back _ is z _ s
+              (omega (arith, lowered_room _ _ _ c.requires.limits _ _ _ _ _ g.2, back.some, c.requires.order_len.1)) _ _ _ t _
+              (c.words_of.ensures (from_sits _ _ _ c.requires.limits _ _ _ _ _ g.2 _ back _ is z _ s).stands.words.size),
+        ),
+      );
+    }
 
 pub shape_of-trail : goal.shape_of-trail
 shape_of-trail c = rw length-set at c.onward.auto.trail
