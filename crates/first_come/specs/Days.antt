@@ -1,25 +1,16 @@
--- Days worked through by first come, first due: the table, and the theorem that every entry holds of the definitions.
--- Rests on: the calls' Days.
-use Rattle.std.specs.Prelude.{ℕ, ◌≡◌, refl, List, [], ◌∷◌, map, pos, negsuc}
-use Rattle.schedule.specs.Rows.{open_rows}
-use Rattle.schedule.specs.Desk.{open_desk}
-use Rattle.schedule.specs.Plans.{open_plans}
-use Rattle.schedule.specs.Arrival.{open_arrival}
-use Rattle.schedule.specs.Profiles.{open_profiles}
+-- Days worked through by first come, first due: the table, and that every entry holds of the definitions. The proof is `days_hold`, in
+-- proofs/Days.antt. Rests on: the calls' Days.
+use Rattle.std.specs.Prelude.{ℕ, List, [], ◌∷◌, pos, negsuc}
 use Rattle.book.specs.Rows.{refused}
-use Rattle.row_calls.specs.Places.{open_places}
 use Rattle.row_calls.specs.declared.RowPlace.TheVariants as row-place
-use Rattle.postings.specs.Posting.{open_posting}
-use Rattle.results.specs.Results.{open_results}
 use Rattle.outcomes.specs.declared.ListAnswer.TheVariants as list-answer
 use Rattle.outcomes.specs.declared.VerdictAnswer.TheVariants as verdict-answer
 use Rattle.grammar.specs.Books.{word_of}
 use Rattle.grammar.specs.Books.{book_of as book}
 use Rattle.outcomes.specs.Planning.{gives}
-use Rattle.calls.specs.Calls.{open_calls}
 use Rattle.calls.specs.Days.{entry, reading, list, bound, plan, posting, row_words_of, row_place_of}
 use Rattle.calls.specs.Days.{reads, lists, judges, words, finds, plans, order, turned_down}
-use Rattle.calls.specs.Days.{Worked, ◌gets◌, with_minutes, answer_by, Hold, hold}
+use Rattle.calls.specs.Days.{Worked, ◌gets◌, with_minutes, Hold}
 use Rattle.readers.specs.Reads.{first_come}
 
 -- M1's two rows; three rows, of which the third disagrees with the first alone.
@@ -76,9 +67,6 @@ days =
     with_minutes 31 (list two_rows (1 ∷ []) gets lists (gives (list-answer.Refused 3 0) (1 ∷ []))) ∷
     []
 
-answered : map (answer_by first_come) days ≡ map (λ (d : Worked). d.told) days
-unfolding open_rows open_desk open_plans open_arrival open_profiles open_places open_posting open_results open_calls
-answered = refl
-
-pub days_hold : Hold first_come days
-days_hold = hold first_come days answered
+-- Each is answered as the table says.
+abbrev pub DaysHold : Type 0
+DaysHold = Hold first_come days
