@@ -167,13 +167,10 @@ fn is_hit(s: &State, number: u32, place: usize) -> bool {
 
 // At how many places the book can be refused with a number there.
 fn hits(out: &mut impl Write, s: &State, number: u32) -> io::Result<()> {
-    let mut n: u64 = 0;
-    for place in 0..s.length {
-        if is_hit(&broken(s, number, place), number, place) {
-            n += 1;
-        }
-    }
-    say::after(out, " ", n)
+    let count = (0..s.length)
+        .filter(|place| is_hit(&broken(s, number, *place), number, *place))
+        .count();
+    say::after(out, " ", count as u64)
 }
 
 // What a number asks.

@@ -1,7 +1,7 @@
 // From bytes to calls.
 ghost use Rattle.std.specs.Prelude.{◌≡◌, length};
 
-use crate::{calls, say};
+use crate::{desk_calls, say};
 use std::io;
 use std::io::Write;
 
@@ -73,7 +73,7 @@ pub fn read(
     match byte {
         b',' => Ok(ended(s, words)),
         b'=' => {
-            calls::call(out, s.last, words, s.count, desk)?;
+            desk_calls::call(out, s.last, words, s.count, desk)?;
             Ok(LINE)
         }
         _ => Ok(other(s, byte)),

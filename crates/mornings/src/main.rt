@@ -14,7 +14,7 @@
 
 ghost use Rattle.std.specs.Prelude.{◌≡◌, length};
 
-mod calls;
+mod desk_calls;
 mod input;
 mod say;
 
