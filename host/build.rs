@@ -1,4 +1,4 @@
-//! Links the archive that `rt staticlib jelvaksna` writes. It proves and builds nothing itself.
+//! Links the archive that `host/build.sh jelvaksna` writes. It proves and builds nothing itself.
 use std::path::Path;
 
 fn main() {
@@ -11,7 +11,7 @@ fn main() {
     println!("cargo:rerun-if-changed={}", archive.display());
     if !archive.exists() {
         eprintln!(
-            "error: {} is missing: run `rt staticlib jelvaksna` in the repository first",
+            "error: {} is missing: run `host/build.sh jelvaksna` in the repository first",
             archive.display()
         );
         eprintln!("(without the archive, --no-default-features builds the model alone)");

@@ -1,6 +1,5 @@
 #!/bin/sh
-# Tests the archive from Rust and from C, and the programs slate, scribe, month and month_scribe. Builds none: `rt staticlib jelvaksna` and
-# `rt check slate scribe month month_scribe` do.
+# Tests the archive from Rust and from C, and the programs slate and scribe. Builds none: `host/build.sh` does.
 # JELVAKSNA_SEED sets the seed of the made books, JELVAKSNA_TIMES multiplies their number.
 set -u
 top=$(cd "$(dirname "$0")/.." && pwd -P) || exit 1
@@ -9,7 +8,7 @@ out=$top/host/target/c
 failed=''
 
 if [ ! -f "$archive" ]; then
-    echo "host tests: FAILED: $archive is missing: run 'rt staticlib jelvaksna' first"
+    echo "host tests: FAILED: $archive is missing: run 'host/build.sh jelvaksna' first"
     exit 1
 fi
 mkdir -p "$out" || exit 1

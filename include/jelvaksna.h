@@ -7,7 +7,7 @@
  * book carries its rows from then on, in words that the caller lends and keeps.
  * A bureau may lend the books of several desks at once.
  *
- * Link with libjelvaksna.a, which `rt staticlib jelvaksna` writes after it has
+ * Link with libjelvaksna.a, which `host/build.sh jelvaksna` makes after it has
  * proved what each call does. This header is kept by hand; host/tests/header.rs
  * holds it to the exported functions.
  *

@@ -299,7 +299,7 @@ fn month(path: &str) -> Vec<u8> {
     let program = concat!(env!("CARGO_MANIFEST_DIR"), "/../target/bin/month");
     let input = File::open(path).expect("a month");
     let output = Command::new(program).stdin(input).output();
-    output.expect("run 'rt check month' first").stdout
+    output.expect("run 'host/build.sh month' first").stdout
 }
 
 /// `month` as a whole process on the most days of one book, each posted in the sequence of its

@@ -14,7 +14,7 @@ fn program(name: &str) -> Command {
     let path = format!("{TOP}/target/bin/{name}");
     assert!(
         Path::new(&path).exists(),
-        "target/bin/{name} is missing: run 'rt check {name}' first"
+        "target/bin/{name} is missing: run 'host/build.sh {name}' first"
     );
     let mut command = Command::new(path);
     command.stdout(Stdio::piped()).stderr(Stdio::piped());
