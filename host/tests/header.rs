@@ -285,7 +285,7 @@ fn keeps_nothing() {
 #[test]
 fn source() {
     let source = flat(&file("crates/jelvaksna/src/lib.rt"));
-    let exported = of_source(&source, "#[no_mangle] pub extern \"C\" fn ");
+    let exported = of_source(&source, "#[unsafe(no_mangle)] pub extern \"C\" fn ");
     // A slice of the source is a pointer and a length to C.
     let spread = |params: &[(String, String)]| -> Vec<String> {
         let each = params.iter().flat_map(|(_, of)| match of.as_str() {
@@ -307,7 +307,7 @@ fn source() {
     let results: BTreeSet<&str> = exported.iter().map(|f| f.2.as_str()).collect();
     assert_eq!(results.len(), 1, "one answer serves all calls");
     let answer = results.first().unwrap();
-    let head = format!("#[repr(C)] pub struct {answer} {{");
+    let head = format!("#[repr(C)] #[derive(Clone, Copy)] pub struct {answer} {{");
     let answers = flat(&file("crates/answers/src/lib.rt"));
     let declared = flat(&file("host/src/linked.rs"));
     assert_eq!(
