@@ -12,7 +12,7 @@ for name in "$@"; do
         mkdir -p "$top/target/staticlib"
         cp "$out/libjelvaksna.a" "$top/target/staticlib/"
     else
-        rt run </dev/null >/dev/null
+        rt run <stdin >/dev/null
         mkdir -p "$top/target/bin"
         cp "$out/$name" "$top/target/bin/"
     fi
