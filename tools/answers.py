@@ -14,9 +14,6 @@ import subprocess
 import sys
 import tempfile
 
-PATH = re.compile(r"(?<![\w.'₀-])(%s)((?:\.[\w'ℕℤ-]+)*)(?![\w'₀-])")
-
-
 def norm(word):
     return word.replace("-", "_")
 
@@ -37,8 +34,6 @@ def functions(top):
                     m = re.match(r"impl(?:<[^>]*>)? (\w+)", line)
                     if m:
                         impl = m.group(1)
-                    if line == "}":
-                        impl = impl if fn and False else impl
                     m = re.match(r"( *)(?:pub )?(?:unsafe )?(?:extern \"C\" )?fn (\w+)", line)
                     if m:
                         fn = (impl + "::" if impl and m.group(1) else "") + m.group(2)
@@ -47,8 +42,6 @@ def functions(top):
                     m = re.match(r" +(requires|ensures)(?: (\w+))? \{", line)
                     if m and fn:
                         out[(crate, fn)][m.group(1)].append(m.group(2))
-                    for m in re.finditer(r" (requires|ensures)(?: (\w+))? \{", line):
-                        pass
     return out
 
 
@@ -93,26 +86,15 @@ def by_clause(body, names):
     """An answer of nested pairs as a record of clauses."""
     if len(names) < 2:
         return body
-    lines = body
-    at = 0
-    m = None
-    for m in re.finditer(r"(?:^|\n)\s*let .*? in(?=\s)", lines, re.S):
-        pass
-    # the final term begins after the last top-level `in`
-    k = final_term(lines)
-    head, term = lines[:k], lines[k:].strip()
-    fields, rest = [], term
-    for i, n in enumerate(names[:-1]):
+    k = final_term(body)
+    head, rest = body[:k], body[k:].strip()
+    fields = []
+    for n in names[:-1]:
         p = split_pair(rest)
-        if not p or len(p) < 2:
-            if rest == "search rules":
-                return body
+        if not p or len(p) != 2:
             return body
-        if len(p) == 2:
-            fields.append((n, p[0]))
-            rest = p[1]
-        else:
-            return body
+        fields.append((n, p[0]))
+        rest = p[1]
     fields.append((names[-1], rest))
     return head + " record { " + "; ".join(f"{n} = {v}" for n, v in fields) + " }"
 
@@ -234,7 +216,7 @@ class Function:
         callee = self.callee.get(step)
         if len(comps) > 1 and comps[1] == "ensures" and callee:
             return clause(self.names_of(callee, "ensures"), comps[2:]) is None
-        return len(comps) == 1 and False
+        return False
 
     def of_step(self, comps):
         """The path is a whole step of the code: a call, whose clauses have names today."""
@@ -255,15 +237,11 @@ class Function:
                 before, after = text[: m.start()], text[m.end():]
                 stop = re.search(r"\blet " + re.escape(name) + r" (?:=|:)", after)
                 head, tail = (after, "") if not stop else (after[: stop.start()], after[stop.start():])
+                head = self.inline(head, name, comps)
                 if stop:
-                    cut = tail.find(" in", 0)
                     # the new value may still use the old name
-                    k = self.let_end(tail)
-                    head, tail = head + tail[: len("let " + name)] + self.inline(tail[len("let " + name): k], name, comps), tail[k:]
-                    head_names = None
-                    head = self.inline(after[: stop.start()], name, comps) + head[len(after[: stop.start()]):]
-                else:
-                    head = self.inline(head, name, comps)
+                    k, at = self.let_end(tail), len("let " + name)
+                    head, tail = head + tail[:at] + self.inline(tail[at:k], name, comps), tail[k:]
                 text = before + head + tail
                 again = True
                 break
@@ -347,13 +325,12 @@ def substitute(term, names):
     return p.sub(one, term)
 
 
-def turn(folder, key, data, crate, fn, all_functions, old):
+def turn(folder, data, crate, fn, all_functions):
     f = Function(data, crate, fn, all_functions)
     text = open(os.path.join(folder, "Proof.antt"), encoding="utf-8").read()
     if "tie.spec" not in text:
         return f"{fn}: walks the code by hand"
     header, uses, invariants, answers = [], [], [], []
-    order = [norm(o) for o, _ in data["needs"]]
     loops = {norm(l[0][0]): (l[0][1], l[1], c) for l, c in zip(data["loops"], data["changed"])}
     dropped, unmatched = 0, []
     first = True
@@ -462,9 +439,8 @@ def turn(folder, key, data, crate, fn, all_functions, old):
                 alias = u.split(" as ")[-1].strip().split(".")[-1]
                 if re.search(r"(?<![\w])" + re.escape(alias) + r"\.", all_text):
                     keep.append(u)
-        head = header if file == "Answers.antt" or not answers else header
         with open(os.path.join(folder, file), "w", encoding="utf-8") as out:
-            out.write("\n".join(head + keep + [f"use {path}.{goals} as goal"]) + "\n\n" + all_text + "\n")
+            out.write("\n".join(header + keep + [f"use {path}.{goals} as goal"]) + "\n\n" + all_text + "\n")
         said.append(file)
     os.remove(os.path.join(folder, "Proof.antt"))
     if not said:
@@ -492,7 +468,7 @@ def main():
         if key not in names:
             print(f"{fn}: no names ({key})")
             continue
-        print(turn(folder, key, names[key], crate, fn, all_functions, None))
+        print(turn(folder, names[key], crate, fn, all_functions))
 
 
 if __name__ == "__main__":
