@@ -1,7 +1,7 @@
 -- Laws of the words of an input: none in fewer than four bytes, and one more word at each turn of the loop that takes them.
 -- Assumes nothing.
 use Prim.Native.Nat.{ℕ, zero, suc, ◌+◌, ◌-◌, ◌*◌, ◌≤◌, ◌<◌}
-use mathlib.Core.Path.{◌≡◌, refl, sym, ◌∙◌}
+use mathlib.Core.Path.{◌≡◌, refl, sym, ap, ◌∙◌}
 use mathlib.Core.List.{List, [], ◌∷◌, ◌++◌, append_assoc, append-nil}
 use native.Mathlib.Omega.{arith}
 use native.Mathlib.Numerals.{add-one, unary_clauses}
@@ -34,18 +34,38 @@ long n at bytes h =
     )
     (simp unary_clauses)
 
--- What the loop has taken, with what is still to come, is all.
-module _ (input words : List ℕ) (k : ℕ) where
-  pub taken : 4 * k + 4 ≤ length input → k < 1028 → k < length words →
-      take (k + 1) (set words k (word_at input (4 * k))) ++ words_in (1028 - (k + 1)) (drop (4 * (k + 1)) input) ≡
-      take k words ++ words_in (1028 - k) (drop (4 * k) input)
+-- One word more, and no byte past the words counts.
+next_word : (n : ℕ) → ((bytes : List ℕ) → words_in n (take (4 * n) bytes) ≡ words_in n bytes) → (bytes : List ℕ) →
+    words_in (suc n) (take (suc (suc (suc (suc (4 * n))))) bytes) ≡ words_in (suc n) bytes
+unfolding words_in
+next_word n f [] = refl
+next_word n f (a ∷ []) = refl
+next_word n f (a ∷ b ∷ []) = refl
+next_word n f (a ∷ b ∷ c ∷ []) = refl
+next_word n f (a ∷ b ∷ c ∷ d ∷ bytes) = ap (λ (ws : List ℕ). (a + 256 * b + 65536 * c + 16777216 * d) ∷ ws) (f bytes)
+
+pub first_words : (n : ℕ) (bytes : List ℕ) → words_in n (take (4 * n) bytes) ≡ words_in n bytes
+unfolding words_in
+first_words zero bytes = refl
+first_words (suc n) bytes = let e : 4 * suc n ≡ suc (suc (suc (suc (4 * n)))) = omega arith in rw e (next_word n (first_words n) bytes)
+
+-- Nothing is taken yet.
+pub none_taken : (input words : List ℕ) →
+    take 0 words ++ words_in (length words - 0) (drop (4 * 0) input) ≡ words_in (length words) input
+none_taken input words = let e : length words - 0 ≡ length words = omega arith in rw e refl
+
+-- What the loop has taken of n words, with what is still to come, is all.
+module _ (input words : List ℕ) (n k : ℕ) where
+  pub taken : 4 * k + 4 ≤ length input → k < n → k < length words →
+      take (k + 1) (set words k (word_at input (4 * k))) ++ words_in (n - (k + 1)) (drop (4 * (k + 1)) input) ≡
+      take k words ++ words_in (n - k) (drop (4 * k) input)
   taken a b c =
-      let n : 1028 - k ≡ suc (1028 - (k + 1)) = omega arith in
+      let e : n - k ≡ suc (n - (k + 1)) = omega arith in
       let m : 4 * (k + 1) ≡ 4 * k + 4 = omega arith in
-      rw (n, m, long (1028 - (k + 1)) (4 * k) input a, add-one k, take-suc-set words k (word_at input (4 * k)) c, append_assoc)
+      rw (e, m, long (n - (k + 1)) (4 * k) input a, add-one k, take-suc-set words k (word_at input (4 * k)) c, append_assoc)
       refl
 
-  pub done : k ≤ length words → words_in (1028 - k) (drop (4 * k) input) ≡ [] →
-      take k words ++ words_in (1028 - k) (drop (4 * k) input) ≡ words_in 1028 input → Counted k words (words_in 1028 input)
+  pub done : k ≤ length words → words_in (n - k) (drop (4 * k) input) ≡ [] →
+      take k words ++ words_in (n - k) (drop (4 * k) input) ≡ words_in n input → Counted k words (words_in n input)
   done h none all =
       record { few = h; size = sym (length-take-le k words h); holds = sym (append-nil (take k words)) ∙ (rw none at all) }

@@ -43,6 +43,22 @@ pub fn words_of(input: &[u8], words: &mut [u32; WORDS]) -> usize
     k
 }
 
+// The whole words of an input, as many as there is room for: how many.
+pub fn words_within(input: &[u8], words: &mut [u32]) -> usize
+    ensures counted { Counted result words.new (words_in (length words.old) input.now) }
+    ensures same_length { length words.new ≡ length words.old }
+{
+    let mut k: usize = 0;
+    while k < words.len() {
+        if input.len() < 4 * k + 4 {
+            return k;
+        }
+        words[k] = word_at(input, 4 * k);
+        k += 1;
+    }
+    k
+}
+
 // The input ends before 1,028 words are in, with 1 to 3 odd bytes.
 pub fn is_odd(input: &[u8]) -> bool
     ensures { result ≡ odd input.now }

@@ -9,7 +9,7 @@ ghost use Rattle.lines.specs.LineBytes.{field, late_field, number_fields, two_fi
 ghost use Rattle.lines.specs.Added.{Added};
 
 // Bytes.
-fn put(sheet: &mut [u8], at: usize, bytes: &[u8]) -> usize
+pub fn put(sheet: &mut [u8], at: usize, bytes: &[u8]) -> usize
     requires { at + length bytes.now ≤ length sheet.old }
     ensures { Added result at (length bytes.now) sheet.old bytes.now sheet.new }
 {
@@ -22,7 +22,7 @@ fn put(sheet: &mut [u8], at: usize, bytes: &[u8]) -> usize
 }
 
 // A field: a fixed word, and a number.
-fn put_field(sheet: &mut [u8], at: usize, word: &[u8], number: u64) -> usize
+pub fn put_field(sheet: &mut [u8], at: usize, word: &[u8], number: u64) -> usize
     requires { at + (length word.now + 20) ≤ length sheet.old }
     ensures { Added result at (length word.now + 20) sheet.old
         (field word.now number) sheet.new }

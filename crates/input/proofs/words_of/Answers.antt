@@ -10,7 +10,7 @@ use Rattle.input.proofs.words_of.Goals as goal
 
 pub returns-then-input-k : goal.returns-then-input-k
 returns-then-input-k c =
-    done c.args.input.now c.loop-k.words c.loop-k.k (omega arith)
+    done c.args.input.now c.loop-k.words 1028 c.loop-k.k (omega arith)
     (short (1028 - c.loop-k.k) (drop (4 * c.loop-k.k)
     c.args.input.now) (simp length-drop (omega arith)))
     c.loop-k.invariant.2
@@ -20,12 +20,12 @@ loop-k-preserved c = (
   search rules,
   simp length-set (search rules),
   rw c.word_at.ensures (taken c.args.input.now
-      c.loop-k.words c.loop-k.k (omega arith) (omega arith) (omega arith) ∙
+      c.loop-k.words 1028 c.loop-k.k (omega arith) (omega arith) (omega arith) ∙
       c.loop-k.invariant.2),
 )
 
 pub returns : goal.returns
 returns c =
-    done c.args.input.now c.loop-k.words c.loop-k.k (omega arith)
+    done c.args.input.now c.loop-k.words 1028 c.loop-k.k (omega arith)
     (no_more (1028 - c.loop-k.k) (drop (4 * c.loop-k.k) c.args.input.now) (omega arith))
     c.loop-k.invariant.2

@@ -1,0 +1,113 @@
+-- The idle minutes of a posting, by its end: idle and all lengths make up what lies between the free minute and the end, and the lengths of
+-- a posting are those of the rows. Assumes nothing.
+use Prim.Native.Nat.{ℕ, suc, ◌+◌, ◌-◌, ◌≤◌, ◌<◌}
+use native.Mathlib.Omega.{arith}
+use mathlib.Core.Path.{◌≡◌, refl, sym, ap, ◌∙◌, subst}
+use mathlib.Core.List.{List, [], ◌∷◌, Permᴰ}
+use mathlib.Core.Option.{Option, none, some}
+use lib.ListN.{length}
+use Rattle.theory.specs.Jobs.{Job}
+use Rattle.schedule.specs.declared.Profile.TheVariants.{Ordering}
+use Rattle.schedule.specs.Rows.{count_from}
+use Rattle.schedule.specs.Desk.{Pair, idle_of, lengths_of, pair_of}
+use Rattle.schedule.specs.Plans.{first_beating}
+use Rattle.schedule.specs.Columns.{columns}
+use Rattle.schedule.proofs.DeskLaws.{idle_sum}
+use Rattle.schedule.proofs.Numbers.{length_count}
+use Rattle.refusals.specs.declared.Tested.{Tested}
+use Rattle.refusals.specs.declared.Tested.TheVariants as tested
+use Rattle.postings.specs.Posting.{posting_tests}
+use Rattle.outcomes.specs.declared.VerdictAnswer.{VerdictAnswer}
+use Rattle.outcomes.specs.declared.VerdictAnswer.TheVariants as verdict-answer
+use Rattle.outcomes.specs.Outcomes.{judged_of, verdict_outcome}
+use Rattle.outcomes.specs.Planning.{Planning, planning_in}
+use Rattle.outcomes.specs.Plannable.{Plannable}
+use Rattle.outcomes.proofs.OutcomeLaws.{verdict_no, verdict_is}
+use Rattle.outcomes.proofs.Columns.{posting_order}
+use Rattle.day_result.specs.declared.DayResult.TheVariants.{Unbeaten, Beaten}
+use Rattle.day_result.specs.DayResults.{result_of}
+use Rattle.day_result.specs.Lasting.{lasting}
+
+-- Whatever order rows are taken in, their lengths come to the same.
+lengths_any_order : (job : ℕ → Job) {a b : List ℕ} → Permᴰ a b → lengths_of job a ≡ lengths_of job b
+unfolding lengths_of
+lengths_any_order job Permᴰ.nil = refl
+lengths_any_order job (Permᴰ.cons e d) = omega (arith, lengths_any_order job d, ap (λ (i : ℕ). (job i).length) e)
+lengths_any_order job (Permᴰ.swap e f) = omega (arith, ap (λ (i : ℕ). (job i).length) e, ap (λ (i : ℕ). (job i).length) f)
+lengths_any_order job (Permᴰ.trans c d) = lengths_any_order job c ∙ lengths_any_order job d
+
+-- Lengths are all that their sum looks at.
+pub lengths_alone : (release minutes due order : List ℕ) →
+    lengths_of (columns release minutes due) order ≡ lengths_of (lasting minutes) order
+unfolding lengths_of
+lengths_alone release minutes due [] = refl
+lengths_alone release minutes due (i ∷ is) = omega (arith, lengths_alone release minutes due is)
+
+-- What is left to add after row i.
+module _ (job : ℕ → Job) (i n : ℕ) where
+  pub next_length : i < n → lengths_of job (count_from (suc i) (n - i)) ≡
+      (job (i + 1)).length + lengths_of job (count_from (suc (i + 1)) (n - (i + 1)))
+  unfolding lengths_of count_from
+  next_length h =
+      let e : n - i ≡ suc (n - (i + 1)) = omega arith in
+      let f : i + 1 ≡ suc i = omega arith in
+      rw (e, f) refl
+
+  pub no_length : i ≡ n → lengths_of job (count_from (suc i) (n - i)) ≡ 0
+  unfolding lengths_of count_from
+  no_length h = let e : n - i ≡ 0 = omega arith in rw e refl
+
+-- A verdict whose end, if it tells one, is the minute t, so many idle minutes and so many of all lengths.
+abbrev pub Ends : (t idle lengths : ℕ) → VerdictAnswer → Type 0
+Ends t idle lengths (verdict-answer.Refused m q) = Unit {0}
+Ends t idle lengths (verdict-answer.Unbeaten e y) = t + (idle + lengths) ≡ e
+Ends t idle lengths (verdict-answer.Beaten e y k) = t + (idle + lengths) ≡ e
+
+-- So it is of a posting of rows 1 to n from the minute t on, with its own idle minutes.
+module _ {job : ℕ → Job} {t n : ℕ} (p : Plannable Ordering job t n) (posting : List ℕ) where
+  abbrev planning : Planning
+  planning = planning_in Ordering job t n
+
+  abbrev Ended : VerdictAnswer → Type 0
+  Ended v = Ends t (idle_of job t posting) (lengths_of job (count_from 1 n)) v
+
+  judged : (q : Pair) (k : Option ℕ) → t + (idle_of job t posting + lengths_of job (count_from 1 n)) ≡ q.end → Ended (judged_of q k)
+  unfolding judged_of
+  judged q none s = s
+  judged q (some k) s = s
+
+  ended : Ended (verdict_outcome planning posting)
+  ended = step (posting_tests (length planning.left) posting) refl
+    where
+      step : (r : Tested) → posting_tests (length planning.left) posting ≡ r → Ended (verdict_outcome planning posting)
+      step (tested.Refused m q) e = subst Ended (sym (verdict_no planning posting m q e)) tt
+      step tested.Passed e =
+          let o = posting_order p posting (subst (λ (m : ℕ). posting_tests m posting ≡ tested.Passed) (length_count 1 n) e) in
+          let pair = pair_of job t posting in
+          subst Ended (sym (verdict_is planning posting e))
+          (judged pair (first_beating 1 planning.plans pair)
+          (ap (λ (l : ℕ). t + (idle_of job t posting + l)) (sym (lengths_any_order job o)) ∙ idle_sum job t posting))
+
+-- Of columns: the verdict v, by whatever name w, and what it says of the day's result.
+module _ (release minutes due : List ℕ) {t n : ℕ} (p : Plannable Ordering (columns release minutes due) t n) (posting : List ℕ)
+    (v w : VerdictAnswer) (told : v ≡ verdict_outcome (planning p posting) posting) (known : v ≡ w) where
+  abbrev idle : ℕ
+  idle = idle_of (columns release minutes due) t posting
+
+  abbrev times : ℕ
+  times = lengths_of (lasting minutes) (count_from 1 n)
+
+  pub own_idle : Ends t idle times w
+  own_idle =
+      subst (λ (l : ℕ). Ends t idle l w) (lengths_alone release minutes due (count_from 1 n))
+      (subst (Ended p posting) (sym told ∙ known) (ended p posting))
+
+  -- Idle minutes that make up the end are the posting's.
+  pub idle_found : (r : ℕ) → Ends t r times w → result_of r w ≡ result_of idle (verdict_outcome (planning p posting) posting)
+  unfolding result_of
+  idle_found r s = step w s own_idle ∙ ap (result_of idle) (sym known ∙ told)
+    where
+      step : (w : VerdictAnswer) → Ends t r times w → Ends t idle times w → result_of r w ≡ result_of idle w
+      step (verdict-answer.Refused m q) a b = refl
+      step (verdict-answer.Unbeaten e y) a b = ap (λ (i : ℕ). Unbeaten i y) (omega arith)
+      step (verdict-answer.Beaten e y k) a b = ap (λ (i : ℕ). Beaten i y) (omega arith)

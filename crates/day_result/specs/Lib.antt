@@ -1,0 +1,2 @@
+pub mod DayResults
+pub mod Lasting

@@ -1,0 +1,5 @@
+pub mod Cuts
+pub mod Slides
+pub mod Bytes
+pub mod WrittenMonth
+pub mod Windows

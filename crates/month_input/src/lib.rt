@@ -1,0 +1,61 @@
+// The input of `month`, as it comes in: a window on the bytes from the start of a day on, the day that is cut off its front, and the window
+// moved on.
+#![tactic(auto)]
+
+ghost use Rattle.std.specs.Prelude.{◌≡◌, ℕ, ◌+◌, ◌-◌, ◌*◌, ◌≤◌, length, take, drop};
+ghost use Rattle.month_input.specs.Layout.{cut_day};
+ghost use Rattle.month_input.specs.Windows.{cut_of, ExtentWithin};
+
+// The most words of a book and entries of a posting that a day may have; and the words and the bytes of the longest day.
+const BOOK: usize = 1_028;
+
+const POSTING: usize = 257;
+
+pub const WORDS: usize = 1_287;
+
+pub const WINDOW: usize = 5_148;
+
+// A day at the start of some words: the words of its book, and the entries of its posting.
+#[derive(Clone, Copy)]
+pub enum Extent {
+    Whole(usize, usize),
+    Broken,
+}
+
+// The day at the start of some words: the book's length, the book, the posting's length, the posting.
+pub fn cut_day(words: &[u32]) -> Extent
+    ensures { (cut_day words.now ≡ cut_of words.now result) × ExtentWithin (length words.now) result }
+{
+    if words.len() == 0 {
+        return Extent::Broken;
+    }
+    let book = words[0] as usize;
+    if BOOK < book {
+        return Extent::Broken;
+    }
+    if words.len() < book + 2 {
+        return Extent::Broken;
+    }
+    let posting = words[book + 1] as usize;
+    if POSTING < posting {
+        return Extent::Broken;
+    }
+    if words.len() < book + posting + 2 {
+        return Extent::Broken;
+    }
+    Extent::Whole(book, posting)
+}
+
+// Moves the bytes after the first `used` of the `have` that a window holds to its front: how many.
+pub fn slide(window: &mut [u8], used: usize, have: usize) -> usize
+    requires { (used ≤ have) × (have ≤ length window.old) }
+    ensures { (result ≡ have - used) × (take result window.new ≡ take result (drop used window.old)) ×
+        (length window.new ≡ length window.old) }
+{
+    let mut i: usize = 0;
+    while i < have - used {
+        window[i] = window[used + i];
+        i += 1;
+    }
+    i
+}

@@ -1,0 +1,4 @@
+pub mod Shown
+pub mod Streamed
+pub mod Promise
+pub mod Worked

@@ -1,0 +1,2 @@
+// What is promised of a month: statements, worked months and their proofs, no code.
+#![tactic(auto)]

@@ -1,0 +1,2 @@
+pub mod ReportBytes
+pub mod SignedFields

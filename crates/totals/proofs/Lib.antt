@@ -1,0 +1,4 @@
+pub mod Levels
+pub mod Report
+pub mod Mean
+pub mod Held

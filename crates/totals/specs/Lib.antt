@@ -1,0 +1,3 @@
+pub mod Report
+pub mod Mean
+pub mod Held
