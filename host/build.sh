@@ -3,7 +3,7 @@
 # target/staticlib/libjelvaksna.a, a program as target/bin/NAME. With no name: the archive and the programs that the host tests run.
 set -eu
 top=$(cd "$(dirname "$0")/.." && pwd -P)
-[ $# -gt 0 ] || set -- jelvaksna slate scribe
+[ $# -gt 0 ] || set -- jelvaksna slate scribe month month_scribe
 for name in "$@"; do
     out=$top/crates/$name/out
     cd "$top/crates/$name"

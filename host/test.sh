@@ -1,5 +1,5 @@
 #!/bin/sh
-# Tests the archive from Rust and from C, and the programs slate and scribe. Builds none: `host/build.sh` does.
+# Tests the archive from Rust and from C, and the programs slate, scribe, month and month_scribe. Builds none: `host/build.sh` does.
 # JELVAKSNA_SEED sets the seed of the made books, JELVAKSNA_TIMES multiplies their number.
 set -u
 top=$(cd "$(dirname "$0")/.." && pwd -P) || exit 1

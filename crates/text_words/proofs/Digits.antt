@@ -1,0 +1,63 @@
+-- Laws of the digits of a word: one more digit, the last one, and when the number is too large.
+-- Assumes nothing.
+use Prim.Native.Nat.{ℕ, ◌+◌, ◌-◌, ◌*◌, ◌≤◌, ◌<◌}
+use native.Mathlib.Numerals.{add-one}
+use native.Mathlib.Omega.{arith}
+use mathlib.Core.Bool.{true, false, ◌&&◌}
+use mathlib.Core.List.{List, [], ◌∷◌}
+use mathlib.Core.Path.{◌≡◌, refl, ap, sym, ◌∙◌}
+use lib.ListN.{length, drop, get_or}
+use lib.Seq.{drop-cons, drop-length}
+use borrow.Author.Tests.{lt-ltb, le-ltb}
+use Rattle.text_words.specs.declared.Number.TheVariants.{Value, Missing, Strange, Large}
+use Rattle.text_words.specs.Numbers.{is_digit, all_digits, decimal, sized, number_of}
+
+split : (w : List ℕ) (i : ℕ) → i < length w → drop i w ≡ get_or w i 0 ∷ drop (i + 1) w
+split w i h = rw add-one (drop-cons w i 0 h)
+
+ended : (w : List ℕ) (i : ℕ) → i ≡ length w → drop i w ≡ []
+ended w i e = rw e (drop-length w)
+
+pub digits_step : (w : List ℕ) (i : ℕ) → i < length w → all_digits (drop i w) ≡ (is_digit (get_or w i 0) && all_digits (drop (i + 1) w))
+unfolding all_digits
+digits_step w i h = ap all_digits (split w i h)
+
+pub digits_end : (w : List ℕ) (i : ℕ) → i ≡ length w → all_digits (drop i w) ≡ true
+unfolding all_digits
+digits_end w i e = ap all_digits (ended w i e)
+
+-- One more digit, d.
+pub decimal_step : (v d : ℕ) (w : List ℕ) (i : ℕ) → i < length w → d ≡ get_or w i 0 - 48 → decimal v (drop i w) ≡ decimal (10 * v + d) (drop (i + 1) w)
+unfolding decimal
+decimal_step v d w i h e = ap (decimal v) (split w i h) ∙ ap (λ (n : ℕ). decimal (10 * v + n) (drop (i + 1) w)) (sym e)
+
+pub decimal_end : (v : ℕ) (w : List ℕ) (i : ℕ) → i ≡ length w → decimal v (drop i w) ≡ v
+unfolding decimal
+decimal_end v w i e = ap (decimal v) (ended w i e)
+
+-- Further digits never make a number smaller.
+pub decimal_grows : (v : ℕ) (bs : List ℕ) → v ≤ decimal v bs
+unfolding decimal
+decimal_grows v [] = omega arith
+decimal_grows v (b ∷ bs) = omega (arith, decimal_grows (10 * v + (b - 48)) bs)
+
+pub sized_small : (v : ℕ) → v < 536870912 → sized v ≡ Value v
+sized_small v h = rw (lt-ltb v 536870912 h, sized)
+
+pub sized_large : (v : ℕ) → 536870912 ≤ v → sized v ≡ Large
+sized_large v h = rw (le-ltb v 536870912 h, sized)
+
+pub number_none : (w : List ℕ) → length w ≡ 0 → number_of w ≡ Missing
+unfolding number_of
+number_none [] e = refl
+number_none (b ∷ bs) e = absurd (omega arith)
+
+pub number_strange : (w : List ℕ) → (length w ≡ 0 → ⊥) → all_digits w ≡ false → number_of w ≡ Strange
+unfolding number_of
+number_strange [] h e = absurd (h refl)
+number_strange (b ∷ bs) h e = rw (e, number_of)
+
+pub number_digits : (w : List ℕ) → (length w ≡ 0 → ⊥) → all_digits w ≡ true → number_of w ≡ sized (decimal 0 w)
+unfolding number_of
+number_digits [] h e = absurd (h refl)
+number_digits (b ∷ bs) h e = rw (e, number_of)

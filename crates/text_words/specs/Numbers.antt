@@ -1,0 +1,32 @@
+-- What a word of a line says as a number: decimal digits and nothing else, and small enough for the value of a book's word.
+-- Assumes nothing.
+use Rattle.std.specs.Prelude.{ℕ, ◌+◌, ◌-◌, ◌*◌, Bool, true, false, ◌&&◌, List, [], ◌∷◌, leb, ltb}
+use Rattle.text_words.specs.declared.Number.{Number}
+use Rattle.text_words.specs.declared.Number.TheVariants.{Value, Missing, Strange, Large}
+
+-- The bytes of the digits 0 to 9.
+abbrev pub is_digit : ℕ → Bool
+is_digit b = leb 48 b && leb b 57
+
+unfoldable pub all_digits : List ℕ → Bool
+all_digits [] = true
+all_digits (b ∷ bs) = is_digit b && all_digits bs
+
+-- The number that the digits bs give after the digits of v.
+unfoldable pub decimal : ℕ → List ℕ → ℕ
+decimal v [] = v
+decimal v (b ∷ bs) = decimal (10 * v + (b - 48)) bs
+
+-- Values have 29 bits.
+abbrev pub sized : ℕ → Number
+sized v = elim (ltb v 536870912) [
+  | true ↦ Value v
+  | false ↦ Large
+]
+
+unfoldable pub number_of : List ℕ → Number
+number_of [] = Missing
+number_of (b ∷ bs) = elim (all_digits (b ∷ bs)) [
+  | true ↦ sized (decimal 0 (b ∷ bs))
+  | false ↦ Strange
+]
