@@ -3,6 +3,7 @@
 // `report_lines` gives every byte that is printed, so only the reading and the writing are taken on trust: that a window shows the bytes
 // that are left.
 #![tactic(auto)]
+
 ghost use Rattle.std.specs.Prelude.{◌≡◌, ◌≤◌, length, take, IfOk};
 
 use month_input::WINDOW;
@@ -13,12 +14,7 @@ use std::io::{Read, Write};
 use totals::Totals;
 
 // Moves a window on past the bytes used, and fills it up from the input: how many bytes it then has.
-fn move_on(
-    input: &mut impl Read,
-    window: &mut [u8],
-    used: usize,
-    have: usize,
-) -> io::Result<usize>
+fn move_on(input: &mut impl Read, window: &mut [u8], used: usize, have: usize) -> io::Result<usize>
     requires { (used ≤ have) × (have ≤ length window.old) }
     ensures room { IfOk result (λ n. n ≤ length window.new) }
     ensures same_length { length window.new ≡ length window.old }
@@ -30,11 +26,7 @@ fn move_on(
 
 // Takes the days of the input one after another, and makes the lines: how many bytes they are. (The 32nd turn is the last: it finds no
 // 32nd day.)
-fn take_days(
-    input: &mut impl Read,
-    window: &mut [u8],
-    sheet: &mut [u8],
-) -> io::Result<usize>
+fn take_days(input: &mut impl Read, window: &mut [u8], sheet: &mut [u8]) -> io::Result<usize>
     requires { 256 ≤ length sheet.old }
     ensures { IfOk result (λ n. (n ≤ 256) × (n ≡ length (take n sheet.new))) }
 {

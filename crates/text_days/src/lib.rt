@@ -9,6 +9,7 @@
 // First free, then pace, then 1 to 256 rows, each with its due or with its turnaround class. What values the words have is for the book's
 // reader to judge: here a number has only to fit the 29 bits of a word's value.
 #![tactic(auto)]
+
 ghost use Rattle.std.specs.Prelude.{◌≡◌, ◌+◌, ◌*◌, ◌%◌, ◌≤◌, ◌<◌, cond, length};
 
 use text_words::{MOST, Numbers};
