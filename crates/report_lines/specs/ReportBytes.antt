@@ -67,5 +67,5 @@ report_bytes r =
 
 -- Opens every definition of this file and of those that it rests on: name it on an `unfolding` line where all is to be computed.
 unfoldable pub open_report_bytes : Unit {0}
-unfolding open_decimal open_line_bytes open_mean mean_line report_bytes
+unfolding open_decimal open_line_bytes open_mean signed_field mean_line report_bytes
 open_report_bytes = tt
