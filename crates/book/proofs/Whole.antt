@@ -11,8 +11,7 @@ use lib.Seq.{get_or_at}
 use borrow.Author.Tests.{ltb-true, ltb-false}
 use Rattle.schedule.specs.Limits.{latest_due, latest_minute, longest_length, most_rows, least_pace, most_pace, most_pages}
 use Rattle.schedule.specs.declared.Row.{Row}
-use Rattle.schedule.specs.declared.Class.{Class}
-use Rattle.schedule.specs.declared.Class.TheVariants.{None, Of}
+use Rattle.std.specs.Prelude.{Option, None, Some}
 use Rattle.schedule.specs.Rows.{no_row, row, Day, all_rows}
 use Rattle.schedule.proofs.Numbers.{count_range}
 use Rattle.refusals.specs.declared.Tested.{Tested}
@@ -61,11 +60,11 @@ by_number rows r zero m = let x : ⊥ = omega (arith, (count_range 1 (length row
 by_number rows r (suc i) m = r i (omega (arith, (count_range 1 (length rows) m).1))
 
 -- The due that a class gives.
-class_due : (k : Class) (release minutes told c : ℕ) → Margined k → k ≡ Of c →
+class_due : (k : Option ℕ) (release minutes told c : ℕ) → Margined k → k ≡ Some c →
     (c < 8) × (due_by k release minutes told ≡ release + minutes + margin c)
 unfolding due_by
 class_due None release minutes told c m e = never (cc)
-class_due (Of d) release minutes told c m e = let s : d ≡ c = cc in rw (← s) ((m, refl))
+class_due (Some d) release minutes told c m e = let s : d ≡ c = cc in rw (← s) ((m, refl))
 
 -- A pace that a book may tell.
 abbrev pub Paced : ℕ → Type 0

@@ -11,7 +11,7 @@ ghost use Rattle.book.specs.Tables.{table_of, no_day, reading_of, unless_refused
 
 use refusals::Tested;
 use row_reader::RowRead;
-use schedule::{Class, Desk, Row};
+use schedule::{Desk, Row};
 
 // The rows that a book gives, with the free minute of the desk. Places from `count` on hold no row.
 #[derive(Drop)]
@@ -51,7 +51,7 @@ fn no_row() -> Row
         release: 0,
         length: 0,
         due: 0,
-        class: Class::None,
+        class: None,
         pages: 0,
     }
 }

@@ -1,9 +1,8 @@
 -- Days worked through: how a table of questions and expected answers is written, and what it is for such a table to hold of the
 -- definitions. The tables are in planner/specs/Days and first_come/specs/Days. Rests on: Calls, Lines, the readers, the grammar's books.
-use Rattle.std.specs.Prelude.{ℕ, ◌≡◌, length, ℤ}
+use Rattle.std.specs.Prelude.{ℕ, ◌≡◌, length, ℤ, Some}
 use Rattle.std.proofs.Common.{sym, ap, ◌∙◌}
 use mathlib.Core.List.{List, [], ◌∷◌, map, Memᴰ, head-eq_of_cons-eq, tail-eq_of_cons-eq}
-use Rattle.schedule.specs.declared.Class.TheVariants.{Of}
 use Rattle.row_reader.specs.NearestMinute.{length_of as lengthFor}
 use Rattle.book.specs.Rows.{Contents, accepted}
 use Rattle.grammar.specs.Books as books
@@ -82,7 +81,7 @@ abbrev pub lasts : (minutes due class pages : ℕ) → Reply
 lasts n d c p =
     reads (accepted (record {
       free = 0;
-      rows = record { number = 901; release = 10; length = n; due = d; class = Of c; pages = p } ∷ [];
+      rows = record { number = 901; release = 10; length = n; due = d; class = Some c; pages = p } ∷ [];
     }))
 
 abbrev pub due : ℕ → ℕ → Reply

@@ -9,7 +9,7 @@ use lib.Dec.{eqb}
 use lib.ListN.{length, drop}
 use borrow.Author.Tests.{eqb-true}
 use Rattle.schedule.specs.Limits.{latest_minute, latest_due}
-use Rattle.schedule.specs.declared.Class.TheVariants.{None, Of}
+use Rattle.std.specs.Prelude.{None, Some}
 use Rattle.schedule.specs.Rows.{stands}
 use Rattle.refusals.specs.declared.Tested.TheVariants.{Passed}
 use Rattle.refusals.specs.Refusals.{by_twice}
@@ -34,7 +34,7 @@ sold_told : (place : ℕ) (ws : List ℕ) → due_tests place ws ≡ Passed → 
 unfolding class_of tests_by
 sold_told place ws t = go (eqb (kind (word ws 3)) 0) refl t
   where
-    go : (b : Bool) → eqb (kind (word ws 3)) 0 ≡ b → tests_by (cond b (Of (value (word ws 3))) None) place ws ≡ Passed →
+    go : (b : Bool) → eqb (kind (word ws 3)) 0 ≡ b → tests_by (cond b (Some (value (word ws 3))) None) place ws ≡ Passed →
         SoldTold (word ws 3)
     go true e t = record {
       sold = class (value (word ws 3));

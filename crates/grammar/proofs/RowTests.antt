@@ -9,7 +9,7 @@ use lib.Dec.{leb, eqb}
 use lib.ListN.{length, drop}
 use borrow.Author.Tests.{leb-true, leb-false, eqb-true, eqb-false}
 use Rattle.schedule.specs.Limits.{latest_minute, latest_due, most_rows}
-use Rattle.schedule.specs.declared.Class.TheVariants.{None, Of}
+use Rattle.std.specs.Prelude.{None, Some}
 use Rattle.schedule.specs.Rows.{stands}
 use Rattle.refusals.specs.Refusals.{by_full, by_twice}
 use Rattle.refusals.specs.Tests.{◌then◌}
@@ -111,7 +111,7 @@ module _ (book numbers : List ℕ) (place : ℕ) (b : Begins book numbers place)
       at = omega (arith, b.is_place)
 
       go : (t : Bool) → eqb (kind_of (word (drop place book) 3)) 0 ≡ t →
-          Leaves book (At book (place + 4)) (tests_by (cond t (Of (value_of (word (drop place book) 3))) None) place (drop place book))
+          Leaves book (At book (place + 4)) (tests_by (cond t (Some (value_of (word (drop place book) 3))) None) place (drop place book))
       go true e =
           let z = sym is_kind ∙ eqb-true (kind_of (word (drop place book) 3)) 0 e in
           word_leaves book 0 0 7 place 3 (place + 4) class_ranges (omega arith) a

@@ -1,12 +1,10 @@
 -- Books as they are written: from a free minute, a pace and rows as they came in. The proofs that the reader gives back what was written,
 -- and takes nothing else, are `written_is_read` and `read_is_written`, in proofs/Books.antt.
 -- Rests on: the limits, the row reader's lengths and margins.
-use Rattle.std.specs.Prelude.{ℕ, ◌+◌, ◌*◌, ◌≤◌, ◌<◌, ◌≡◌, length}
+use Rattle.std.specs.Prelude.{ℕ, ◌+◌, ◌*◌, ◌≤◌, ◌<◌, ◌≡◌, length, Option, None, Some}
 use mathlib.Core.List.{List, [], ◌∷◌, ◌++◌, map, Memᴰ}
 use Rattle.schedule.specs.Limits.{most_rows, latest_minute, latest_due, most_pages, least_pace, most_pace}
 use Rattle.schedule.specs.declared.Row.{Row}
-use Rattle.schedule.specs.declared.Class.{Class}
-use Rattle.schedule.specs.declared.Class.TheVariants.{None, Of}
 use Rattle.schedule.specs.Rows.{Day}
 use Rattle.row_reader.specs.Margins.{margin}
 use Rattle.row_reader.specs.NearestMinute.{length_of}
@@ -46,9 +44,9 @@ abbrev pub due_by_sold : (release minutes : ℕ) → Sold → ℕ
 due_by_sold release minutes (due d) = d
 due_by_sold release minutes (class c) = release + minutes + margin c
 
-abbrev pub class_by_sold : Sold → Class
+abbrev pub class_by_sold : Sold → Option ℕ
 class_by_sold (due d) = None
-class_by_sold (class c) = Of c
+class_by_sold (class c) = Some c
 
 abbrev pub row_by : (pace : ℕ) → Entry → Row
 row_by pace e =

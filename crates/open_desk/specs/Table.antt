@@ -1,10 +1,9 @@
 -- The refusals of the open desk's calls: under which condition each is told, with the place. The proofs are in proofs/Refused.antt.
 -- Rests on: History, the running desk and its words, the table of a book's calls (promises).
-use Rattle.std.specs.Prelude.{ℕ, ◌+◌, ◌*◌, ◌≤◌, ◌<◌, ◌⊎◌, length}
+use Rattle.std.specs.Prelude.{ℕ, ◌+◌, ◌*◌, ◌≤◌, ◌<◌, ◌⊎◌, length, None}
 use mathlib.Core.List.{List, Memᴰ}
 use Rattle.schedule.specs.Limits.{latest_start, latest_end, longest_time, least_pace, most_pace}
 use Rattle.schedule.specs.declared.Row.{Row}
-use Rattle.schedule.specs.declared.Class.TheVariants.{None}
 use Rattle.schedule.specs.Cover.{Agreeing}
 use Rattle.refusals.specs.Refusals.{by_range, by_disorder, by_narrow, by_unlisted, by_done, by_early}
 use Rattle.pairs.specs.Pairs.{number_word}

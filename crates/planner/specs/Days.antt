@@ -1,8 +1,7 @@
 -- The days worked through, M1 to M13, days with classes, with rows as they arrive, with reading times between whole minutes, with opening
 -- minutes and with a later free minute: the table, and that every entry holds of the definitions. The proof is `days_hold`, in
 -- proofs/Days.antt. Rests on: the calls' Days.
-use Rattle.std.specs.Prelude.{ℕ, List, [], ◌∷◌, pos, negsuc}
-use Rattle.schedule.specs.declared.Class.TheVariants.{None}
+use Rattle.std.specs.Prelude.{ℕ, List, [], ◌∷◌, pos, negsuc, None}
 use Rattle.book.specs.Rows.{refused, accepted}
 use Rattle.row_calls.specs.declared.RowPlace.TheVariants as row-place
 use Rattle.outcomes.specs.declared.ListAnswer.TheVariants as list-answer

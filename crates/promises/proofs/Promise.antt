@@ -12,7 +12,7 @@ use Rattle.theory.specs.Jobs.{Job}
 use Rattle.schedule.specs.Limits.{most_rows, latest_minute, longest_time, latest_due, latest_book_end, least_lateness}
 use Rattle.schedule.specs.declared.Profile.{Profile}
 use Rattle.schedule.specs.declared.Profile.TheVariants.{Ordering}
-use Rattle.schedule.specs.declared.Class.TheVariants.{Of}
+use Rattle.std.specs.Prelude.{Some}
 use Rattle.schedule.specs.Rows.{row, job, Day, jobs, row_numbers}
 use Rattle.schedule.specs.Desk.{OrderOf, end_of, pair_of}
 use Rattle.schedule.specs.Cover.{Fits32}
@@ -234,7 +234,7 @@ module _ (terms : Terms) where
 
   -- A book of one class is accepted by the ordering rule.
   one_class_accepted : profile ≡ Ordering → (book : List ℕ) (day : Day) (c : ℕ) → Tells book day →
-      ((i : ℕ) → Memᴰ i (row_numbers day) → (row day.rows i).class ≡ Of c) → Accepts profile book day
+      ((i : ℕ) → Memᴰ i (row_numbers day) → (row day.rows i).class ≡ Some c) → Accepts profile book day
   one_class_accepted o book day c t h =
       subst (λ (p : Profile). Accepts p book day) (sym o) ((accepts Ordering book day).0 (one_class book c day ((tells book day).1 t) h))
 

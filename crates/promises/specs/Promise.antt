@@ -2,14 +2,13 @@
 -- `ordering_rule` or `first_come` (readers) with any opening minutes. The proofs are `lent_memory`, `definitions_hold` and `cover_holds`, in
 -- proofs/Promise.antt. That each function does what is said here of its call is its contract (planner/src, first_come/src).
 -- Rests on: Vocabulary, Table, the grammar of books, the schedule.
-use Rattle.std.specs.Prelude.{ℕ, ◌*◌, ◌≤◌, ◌<◌, ◌≡◌, ◌↔◌, length, take, drop, ℤ, pos, ◌≤ℤ◌, ◌<ℤ◌}
+use Rattle.std.specs.Prelude.{ℕ, ◌*◌, ◌≤◌, ◌<◌, ◌≡◌, ◌↔◌, length, take, drop, ℤ, pos, ◌≤ℤ◌, ◌<ℤ◌, Some}
 use mathlib.Core.List.{List, [], Memᴰ}
 use Rattle.std.proofs.Math.Option.{some}
 use Rattle.theory.specs.Jobs.{Job}
 use Rattle.schedule.specs.Limits.{latest_book_end, least_lateness}
 use Rattle.schedule.specs.declared.Profile.{Profile}
 use Rattle.schedule.specs.declared.Profile.TheVariants.{Ordering, FirstCome}
-use Rattle.schedule.specs.declared.Class.TheVariants.{Of}
 use Rattle.schedule.specs.Rows.{row, job, Day, jobs, row_numbers}
 use Rattle.schedule.specs.Desk.{Pair, OrderOf, Attains, end_of, pair_of}
 use Rattle.schedule.specs.Plans.{plans, first_beating}
@@ -110,7 +109,7 @@ pub record Property2 (terms : Terms) : Type 0 where
   pub nearest_minute : NearestMinute
   -- By the ordering rule a book of one class is never refused for disorder, however its rows stand.
   pub one_class : terms.profile ≡ Ordering → (book : List ℕ) (day : Day) (c : ℕ) → Tells book day →
-      ((i : ℕ) → Memᴰ i (row_numbers day) → (row day.rows i).class ≡ Of c) → Accepts terms.profile book day
+      ((i : ℕ) → Memᴰ i (row_numbers day) → (row day.rows i).class ≡ Some c) → Accepts terms.profile book day
 
 -- # 3. The cover
 -- Of what is planned, and L, the plans as they are listed in a buffer of two words for each row.

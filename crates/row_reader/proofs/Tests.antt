@@ -9,8 +9,7 @@ use lib.Dec.{leb, eqb}
 use lib.ListN.{length, get_or}
 use borrow.Author.Tests.{leb-false, leb-true}
 use Rattle.schedule.specs.Limits.{latest_due, latest_minute, longest_length, most_rows}
-use Rattle.schedule.specs.declared.Class.{Class}
-use Rattle.schedule.specs.declared.Class.TheVariants.{None, Of}
+use Rattle.std.specs.Prelude.{Option, None, Some}
 use Rattle.refusals.specs.declared.Tested.TheVariants.{Passed}
 use Rattle.refusals.proofs.Tests.{never, then_left, then_right, not_refused}
 use Rattle.words.specs.Words.{kind, value, word}
@@ -43,11 +42,11 @@ pub margin_most : (c : ℕ) → margin c ≤ 43200
 margin_most c = entry_most 43200 margins refl c
 
 -- A class is the value of its word.
-class_value : (ws : List ℕ) (c : ℕ) → class_of ws ≡ Of c → c ≡ value (word ws 3)
+class_value : (ws : List ℕ) (c : ℕ) → class_of ws ≡ Some c → c ≡ value (word ws 3)
 unfolding class_of
 class_value ws c e = go (eqb (kind (word ws 3)) 0) e
   where
-    go : (b : Bool) → cond b (Of (value (word ws 3))) None ≡ Of c → c ≡ value (word ws 3)
+    go : (b : Bool) → cond b (Some (value (word ws 3))) None ≡ Some c → c ≡ value (word ws 3)
     go true g = cc
     go false g = never (cc)
 
@@ -61,11 +60,11 @@ due_fits : (place : ℕ) (ws : List ℕ) → due_tests place ws ≡ Passed → D
 unfolding tests_by due_by
 due_fits place ws e = let g = go (class_of ws) (class_value ws) e in record { there = g.0; class = g.1; most = g.2 }
   where
-    go : (k : Class) → ((c : ℕ) → k ≡ Of c → c ≡ value (word ws 3)) → tests_by k place ws ≡ Passed →
+    go : (k : Option ℕ) → ((c : ℕ) → k ≡ Some c → c ≡ value (word ws 3)) → tests_by k place ws ≡ Passed →
         (3 < length ws) × Margined k × ((release minutes : ℕ) → release ≤ latest_minute → minutes ≤ longest_length →
         due_by k release minutes (value (word ws 3)) ≤ latest_due)
     go None same f = let w = word_fits 6 0 latest_due place ws 3 f in (w.there, tt, λ release minutes r l. w.most)
-    go (Of c) same f =
+    go (Some c) same f =
         let w = word_fits 0 0 7 place ws 3 f in
         let v : c ≡ value (word ws 3) = same c refl in
         (w.there, omega (arith, w.most), λ release minutes r l. omega (arith, margin_most c))

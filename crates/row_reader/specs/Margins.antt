@@ -1,8 +1,7 @@
 -- The margins of the turnaround classes.
 -- Rests on: the rows of a table.
-use Rattle.std.specs.Prelude.{ℕ, ◌+◌, ◌<◌, ◌≡◌, List, [], ◌∷◌, get_or}
+use Rattle.std.specs.Prelude.{ℕ, ◌+◌, ◌<◌, ◌≡◌, List, [], ◌∷◌, get_or, Some}
 use Rattle.schedule.specs.declared.Row.{Row}
-use Rattle.schedule.specs.declared.Class.TheVariants.{Of}
 
 -- The margins of the classes 0 to 7, in minutes, and the margin of one class.
 abbrev pub margins : List ℕ
@@ -13,4 +12,4 @@ margin c = get_or margins c 0
 
 -- The class of a row of the table is one of 0 to 7, and the row is due its length and the class's margin after its release.
 abbrev pub ClassDue : Row → Type 0
-ClassDue r = (c : ℕ) → r.class ≡ Of c → (c < 8) × (r.due ≡ r.release + r.length + margin c)
+ClassDue r = (c : ℕ) → r.class ≡ Some c → (c < 8) × (r.due ≡ r.release + r.length + margin c)

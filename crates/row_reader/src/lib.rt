@@ -14,7 +14,7 @@ ghost use Rattle.row_reader.specs.Cited.{row_read_of};
 ghost use Rattle.row_reader.specs.NearestMinute.{length_of};
 
 use refusals::Tested;
-use schedule::{Class, Desk, Row};
+use schedule::{Desk, Row};
 
 // The margins in minutes of the turnaround classes, from class 0 on.
 const MARGINS: [u32; 8] = [60, 120, 480, 1_440, 4_320, 10_080, 20_160, 43_200];
@@ -60,14 +60,14 @@ fn number_tests(numbers: &[u32; Desk::ROWS], count: usize, place: usize, rest: &
 }
 
 // The class of a row, or that it has none: a word of kind 0 in the place of the due word is a class.
-fn class_of(rest: &[u32]) -> Class
+fn class_of(rest: &[u32]) -> Option<u32>
     ensures { result ≡ class_of rest.now }
 {
     let w = words::word_at(rest, 3);
     if words::kind_of(w) == 0 {
-        Class::Of(words::value_of(w))
+        Some(words::value_of(w))
     } else {
-        Class::None
+        None
     }
 }
 
@@ -77,8 +77,8 @@ fn due_tests(place: usize, rest: &[u32]) -> Tested
     ensures { result ≡ due_tests place rest.now }
 {
     match class_of(rest) {
-        Class::None => words::word_tests(6, 0, Desk::DUES, place, rest, 3),
-        Class::Of(_) => words::word_tests(0, 0, RowRead::LAST_CLASS, place, rest, 3),
+        None => words::word_tests(6, 0, Desk::DUES, place, rest, 3),
+        Some(_) => words::word_tests(0, 0, RowRead::LAST_CLASS, place, rest, 3),
     }
 }
 
@@ -111,13 +111,13 @@ fn margin_of(class: u32) -> u32
 }
 
 // Due: what the due word told; of a class, release plus length plus margin.
-fn due_of(class: Class, release: u32, minutes: u32, told: u32) -> u32
+fn due_of(class: Option<u32>, release: u32, minutes: u32, told: u32) -> u32
     requires { Margined class × (release ≤ latest_minute) × (minutes ≤ longest_length) }
     ensures { result ≡ due_by class release minutes told }
 {
     match class {
-        Class::None => told,
-        Class::Of(c) => release + minutes + margin_of(c),
+        None => told,
+        Some(c) => release + minutes + margin_of(c),
     }
 }
 

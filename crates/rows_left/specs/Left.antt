@@ -1,11 +1,10 @@
 -- The rows left on a running desk: whether they can be planned. On a desk that was opened and started on they always can; on other
 -- words that look like a desk they may not.
 -- Rests on: the running desk and its words, the rule of rows (readers).
-use Rattle.std.specs.Prelude.{ℕ, ◌+◌, ◌*◌, Bool, true, false, ◌&&◌, List, map, leb, length}
+use Rattle.std.specs.Prelude.{ℕ, ◌+◌, ◌*◌, Bool, true, false, ◌&&◌, List, map, leb, length, None}
 use Rattle.theory.specs.Jobs.{Job}
 use Rattle.schedule.specs.Limits.{longest_time, latest_end}
 use Rattle.schedule.specs.declared.Row.{Row}
-use Rattle.schedule.specs.declared.Class.TheVariants.{None}
 use Rattle.schedule.specs.declared.Profile.TheVariants.{Ordering}
 use Rattle.refusals.specs.declared.Tested.{Tested}
 use Rattle.refusals.specs.declared.Tested.TheVariants.{Passed, Refused}

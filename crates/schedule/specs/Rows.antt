@@ -1,9 +1,8 @@
 -- Rows of a table and their numbers. A row is named by its number in the table, from 1; an order is a list of such numbers.
 -- Rests on: the jobs of the theory.
-use Rattle.std.specs.Prelude.{ℕ, zero, suc, ◌+◌, Bool, false, cond, ◌||◌, List, [], ◌∷◌, eqb, length, get_or}
+use Rattle.std.specs.Prelude.{ℕ, zero, suc, ◌+◌, Bool, false, cond, ◌||◌, List, [], ◌∷◌, eqb, length, get_or, None}
 use Rattle.theory.specs.Jobs.{Job}
 use Rattle.schedule.specs.declared.Row.{Row}
-use Rattle.schedule.specs.declared.Class.TheVariants.{None}
 
 -- What stands for a row that is not there.
 abbrev pub no_row : Row

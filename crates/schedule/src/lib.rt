@@ -4,13 +4,6 @@
 ghost use Rattle.std.specs.Prelude.{◌≡◌, ◌≤◌, max};
 ghost use Rattle.schedule.specs.Offset.{raised, lowered, desk_at, desk_after};
 
-// The turnaround class that a transcript was sold by, or that it was sold by none.
-#[derive(Clone, Copy)]
-pub enum Class {
-    None,
-    Of(u32),
-}
-
 // A profile: by which rule the rows of a book are tested and planned. A bureau chooses it by the calls that it makes.
 #[derive(Clone, Copy)]
 pub enum Profile {
@@ -18,7 +11,7 @@ pub enum Profile {
     FirstCome,
 }
 
-// A row of the table: one transcript.
+// A row of the table: one transcript. The class is the turnaround class that it was sold by, if it was sold by one.
 #[derive(Clone, Copy)]
 pub struct Row {
     pub number: u32,
@@ -26,7 +19,7 @@ pub struct Row {
     pub length: u32,
     pub due: u32,
     pub pages: u32,
-    pub class: Class,
+    pub class: Option<u32>,
 }
 
 // A desk in planning: the minute it stands at, and the worst lateness so far, raised by 2^31; 0 where no row is done.

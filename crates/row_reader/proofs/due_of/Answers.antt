@@ -8,21 +8,21 @@ use Rattle.row_reader.proofs.Tests.{margin_most}
 use Rattle.row_reader.proofs.due_of.Goals as goal
 
 pub margin_of-requires : goal.margin_of-requires
-margin_of-requires c = subst Margined c.in-Of.is c.requires.0
+margin_of-requires c = subst Margined c.in-Some.is c.requires.0
 
-pub overflow_add-result-in-Of : goal.overflow_add-result-in-Of
-overflow_add-result-in-Of c = omega (
+pub overflow_add-result-in-Some : goal.overflow_add-result-in-Some
+overflow_add-result-in-Some c = omega (
   arith,
   c.requires.1,
   c.requires.2,
   c.margin_of.ensures,
-  margin_most c.in-Of.c,
+  margin_most c.in-Some.c,
 )
 
 pub returns-in-None : goal.returns-in-None
 unfolding due_by
 returns-in-None c = cc
 
-pub returns-in-Of : goal.returns-in-Of
+pub returns-in-Some : goal.returns-in-Some
 unfolding due_by
-returns-in-Of c = cc
+returns-in-Some c = cc

@@ -7,6 +7,6 @@ pub returns-in-None : goal.returns-in-None
 unfolding tests_by
 returns-in-None c = rw (← c.class_of.ensures, c.in-None.is) (cc)
 
-pub returns-in-Of : goal.returns-in-Of
+pub returns-in-Some : goal.returns-in-Some
 unfolding tests_by
-returns-in-Of c = rw (← c.class_of.ensures, c.in-Of.is) (cc)
+returns-in-Some c = rw (← c.class_of.ensures, c.in-Some.is) (cc)
