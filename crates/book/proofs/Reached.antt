@@ -1,5 +1,6 @@
 -- How far the rows of a book are read: one turn of the row loop.
 -- Assumes nothing.
+use Rattle.std.specs.Prelude.{Ok, Err}
 use Prim.Native.Nat.{ℕ, suc, ◌+◌, ◌-◌, ◌*◌, ◌<◌}
 use native.Mathlib.Omega.{arith}
 use mathlib.Core.Bool.{true, false}
@@ -8,11 +9,9 @@ use mathlib.Core.List.{List, [], ◌∷◌, ◌++◌}
 use lib.ListN.{length, take, drop, set, replicate, length-map}
 use Rattle.schedule.specs.Limits.{most_rows}
 use Rattle.schedule.specs.declared.Row.{Row}
-use Rattle.refusals.specs.declared.Tested.{Tested}
-use Rattle.refusals.specs.declared.Tested.TheVariants.{Passed, Refused}
+use Rattle.refusals.specs.Tests.{Tested}
 use Rattle.book.specs.declared.Table.{Table}
 use Rattle.book.specs.declared.Reading.{Reading}
-use Rattle.row_reader.specs.declared.RowRead.TheVariants as read
 use Rattle.row_reader.specs.RowWords.{numbers_of, row_tests, row_of}
 use Rattle.row_reader.specs.Cited.{row_read_of}
 use Rattle.book.specs.Rows.{accepted, day_of, refused_or, end_stands, end_tests, tried_rows, read_rows}
@@ -23,20 +22,20 @@ use Rattle.book.proofs.Tables.{Filled, filled_start, filled_size, filled_on, Col
 use Rattle.book.proofs.Tables.{unless_refused_is}
 
 -- The row reader's answer, taken apart.
-pub whole_tests : (o : Tested) (r q : Row) → read.Whole q ≡ row_read_of o r → o ≡ Passed
+pub whole_tests : (o : Tested) (r q : Row) → Ok q ≡ row_read_of o r → o ≡ Ok tt
 unfolding row_read_of
-whole_tests Passed r q e = refl
-whole_tests (Refused n p) r q e = never (cc)
+whole_tests (Ok tt) r q e = refl
+whole_tests (Err (record { number = n; place = p })) r q e = never (cc)
 
-pub whole_row : (o : Tested) (r q : Row) → read.Whole q ≡ row_read_of o r → q ≡ r
+pub whole_row : (o : Tested) (r q : Row) → Ok q ≡ row_read_of o r → q ≡ r
 unfolding row_read_of
-whole_row Passed r q e = cc
-whole_row (Refused n p) r q e = never (cc)
+whole_row (Ok tt) r q e = cc
+whole_row (Err (record { number = n; place = p })) r q e = never (cc)
 
-pub refused_tests : (o : Tested) (r : Row) (n p : ℕ) → read.Refused n p ≡ row_read_of o r → o ≡ Refused n p
+pub refused_tests : (o : Tested) (r : Row) (n p : ℕ) → Err (record { number = n; place = p }) ≡ row_read_of o r → o ≡ Err (record { number = n; place = p })
 unfolding row_read_of
-refused_tests Passed r n p e = never (cc)
-refused_tests (Refused m q) r n p e = cc
+refused_tests (Ok tt) r n p e = never (cc)
+refused_tests (Err (record { number = m; place = q })) r n p e = cc
 
 -- One step of the rows: the end, or a row.
 module _ (more free pace : ℕ) (rows : List Row) (place : ℕ) (ws : List ℕ) where
@@ -85,17 +84,17 @@ module _ {free pace : ℕ} {words : List ℕ} {t : Table} {numbers : List ℕ} {
       (read_rows (most_rows - t.count) free pace (table_rows t ++ (row_of pace rest ∷ [])) (place + 4) (drop 4 rest))
   tested e = rw (h.same, more, h.column.same) (read_on_lem (most_rows - t.count) free pace (table_rows t) place rest (rw size e))
 
-  pub reached_refused : (n p : ℕ) → end_stands t.count rest ≡ false → tests ≡ Refused n p →
-      ◌≡◌ {A = Reading} (record { outcome = Refused n p; table = table_of no_day }) (reading_of (read_rows tried_rows free pace [] 2 words))
+  pub reached_refused : (n p : ℕ) → end_stands t.count rest ≡ false → tests ≡ Err (record { number = n; place = p }) →
+      ◌≡◌ {A = Reading} (record { outcome = Err (record { number = n; place = p }); table = table_of no_day }) (reading_of (read_rows tried_rows free pace [] 2 words))
   unfolding reading_of
   reached_refused n p e g = rw (tested e, g)
 
-  pub reached_room : tests ≡ Passed → t.count < most_rows
+  pub reached_room : tests ≡ Ok tt → t.count < most_rows
   reached_room g =
       let f = row_fits (take t.count numbers) place rest g in
       omega (arith, f.room, ap length h.column.same, length-map (table_rows t) (λ (r : Row). r.number), size)
 
-  pub reached_on : end_stands t.count rest ≡ false → tests ≡ Passed →
+  pub reached_on : end_stands t.count rest ≡ false → tests ≡ Ok tt →
       Reached free pace words (pushed t (row_of pace rest)) (set numbers t.count (row_of pace rest).number) (place + 4) (drop 4 rest)
   reached_on e g =
       let row = row_of pace rest in

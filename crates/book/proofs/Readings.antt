@@ -1,5 +1,6 @@
 -- Readings: from the rows to the whole book, and what a caller knows of the table.
 -- Assumes nothing.
+use Rattle.std.specs.Prelude.{Ok, Err}
 use Prim.Native.Nat.{ℕ, zero, suc, ◌≤◌}
 use native.Mathlib.Omega.{arith}
 use mathlib.Core.Path.{◌≡◌, refl, ap}
@@ -8,8 +9,7 @@ use lib.ListN.{length}
 use Rattle.schedule.specs.Limits.{most_rows, latest_minute, longest_length, latest_due}
 use Rattle.schedule.specs.declared.Row.{Row}
 use Rattle.schedule.specs.Rows.{row, Day}
-use Rattle.refusals.specs.declared.Tested.{Tested}
-use Rattle.refusals.specs.declared.Tested.TheVariants.{Passed, Refused}
+use Rattle.refusals.specs.Tests.{Tested}
 use Rattle.book.specs.declared.Table.{Table}
 use Rattle.book.specs.declared.Reading.{Reading}
 use Rattle.book.specs.Rows.{Contents, refused, accepted}
@@ -19,12 +19,12 @@ use Rattle.book.proofs.Tables.{table_rows_lem}
 use Rattle.book.proofs.Whole.{AllRanged, book_rows, whole_words}
 
 -- The head: it is refused; it passed, and the rows are left.
-pub head_refused : (ws : List ℕ) (o : Tested) (n p : ℕ) → o ≡ head_tests ws → o ≡ Refused n p →
+pub head_refused : (ws : List ℕ) (o : Tested) (n p : ℕ) → o ≡ head_tests ws → o ≡ Err (record { number = n; place = p }) →
     ◌≡◌ {A = Reading} (record { outcome = o; table = table_of no_day }) (reading_of (read_words ws))
 unfolding read_words reading_of
 head_refused ws o n p e f = rw (← e, f)
 
-pub head_passed : (ws : List ℕ) (o : Tested) → o ≡ head_tests ws → o ≡ Passed → read_words ws ≡ book_rows ws
+pub head_passed : (ws : List ℕ) (o : Tested) → o ≡ head_tests ws → o ≡ Ok tt → read_words ws ≡ book_rows ws
 unfolding read_words
 head_passed ws o e f = rw (← e, f)
 

@@ -11,11 +11,10 @@ use lib.Seq.{get_or_at}
 use borrow.Author.Tests.{ltb-true, ltb-false}
 use Rattle.schedule.specs.Limits.{latest_due, latest_minute, longest_length, most_rows, least_pace, most_pace, most_pages}
 use Rattle.schedule.specs.declared.Row.{Row}
-use Rattle.std.specs.Prelude.{Option, None, Some}
+use Rattle.std.specs.Prelude.{Option, None, Some, Ok, Err}
 use Rattle.schedule.specs.Rows.{no_row, row, Day, all_rows}
 use Rattle.schedule.proofs.Numbers.{count_range}
-use Rattle.refusals.specs.declared.Tested.{Tested}
-use Rattle.refusals.specs.declared.Tested.TheVariants.{Passed, Refused}
+use Rattle.refusals.specs.Tests.{Tested}
 use Rattle.refusals.specs.Refusals.{by_tail}
 use Rattle.words.specs.Words.{kind, value, word}
 use Rattle.row_reader.specs.Due.{class_of, due_by}
@@ -35,13 +34,13 @@ use Rattle.book.proofs.Reached.{read_end, read_on_lem}
 no_contents : {n p : ℕ} {day : Day} → refused n p ≡ accepted day → ⊥
 no_contents e = never (cc)
 
-pub or_tests : (o : Tested) (c : Contents) {day : Day} → refused_or o c ≡ accepted day → o ≡ Passed
-or_tests Passed c e = refl
-or_tests (Refused n p) c e = absurd (no_contents e)
+pub or_tests : (o : Tested) (c : Contents) {day : Day} → refused_or o c ≡ accepted day → o ≡ Ok tt
+or_tests (Ok tt) c e = refl
+or_tests (Err (record { number = n; place = p })) c e = absurd (no_contents e)
 
 pub or_contents : (o : Tested) (c : Contents) {day : Day} → refused_or o c ≡ accepted day → c ≡ accepted day
-or_contents Passed c e = e
-or_contents (Refused n p) c e = absurd (no_contents e)
+or_contents (Ok tt) c e = e
+or_contents (Err (record { number = n; place = p })) c e = absurd (no_contents e)
 
 -- The ranges of a row, and the due of its class.
 pub record RowRanged (r : Row) : Type 0 where

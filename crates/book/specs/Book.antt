@@ -2,7 +2,7 @@
 -- Rests on: Rows.
 use Rattle.std.specs.Prelude.{ℕ, ◌-◌, List, [], drop}
 use Rattle.schedule.specs.Limits.{latest_minute, least_pace, most_pace}
-use Rattle.refusals.specs.declared.Tested.{Tested}
+use Rattle.refusals.specs.Tests.{Tested}
 use Rattle.refusals.specs.Tests.{◌then◌}
 use Rattle.words.specs.Words.{value, word}
 use Rattle.words.specs.WordTests.{word_tests}

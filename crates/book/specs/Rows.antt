@@ -1,10 +1,9 @@
 -- The rows of a book: read one after another up to the end word, with the tests 6 and 7. What a book gives.
 -- Rests on: the words, the row reader. As there, `ws` is the book from `place` on.
-use Rattle.std.specs.Prelude.{ℕ, zero, suc, ◌+◌, Bool, true, false, not, ◌&&◌, List, [], ◌∷◌, ◌++◌, ltb, eqb, length, drop}
+use Rattle.std.specs.Prelude.{ℕ, zero, suc, ◌+◌, Bool, true, false, not, ◌&&◌, List, [], ◌∷◌, ◌++◌, ltb, eqb, length, drop, Ok, Err}
 use Rattle.schedule.specs.declared.Row.{Row}
 use Rattle.schedule.specs.Rows.{Day}
-use Rattle.refusals.specs.declared.Tested.{Tested}
-use Rattle.refusals.specs.declared.Tested.TheVariants.{Passed, Refused}
+use Rattle.refusals.specs.Tests.{Tested}
 use Rattle.refusals.specs.Refusals.{by_full, by_count, by_tail}
 use Rattle.refusals.specs.Tests.{refuse_if, ◌then◌}
 use Rattle.words.specs.Words.{kind, value, word}
@@ -21,8 +20,8 @@ day_of free rows = record { free = free; rows = rows }
 
 -- What a test leaves of the contents.
 abbrev pub refused_or : Tested → Contents → Contents
-refused_or Passed c = c
-refused_or (Refused n p) c = refused n p
+refused_or (Ok tt) c = c
+refused_or (Err (record { number = n; place = p })) c = refused n p
 
 -- The end word, kind 7, stands here. It may stand only after a whole row.
 unfoldable pub end_stands : (count : ℕ) → List ℕ → Bool

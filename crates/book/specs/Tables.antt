@@ -1,11 +1,10 @@
 -- The table that the reader makes of a book. Only contracts cite it.
 -- Rests on: Rows.
-use Rattle.std.specs.Prelude.{◌-◌, List, [], ◌++◌, length, take, replicate}
+use Rattle.std.specs.Prelude.{◌-◌, List, [], ◌++◌, length, take, replicate, Ok, Err}
 use Rattle.schedule.specs.Limits.{most_rows}
 use Rattle.schedule.specs.declared.Row.{Row}
 use Rattle.schedule.specs.Rows.{no_row, Day}
-use Rattle.refusals.specs.declared.Tested.{Tested}
-use Rattle.refusals.specs.declared.Tested.TheVariants.{Passed, Refused}
+use Rattle.refusals.specs.Tests.{Tested}
 use Rattle.book.specs.declared.Table.{Table}
 use Rattle.book.specs.declared.Reading.{Reading}
 use Rattle.book.specs.Rows.{Contents, refused, accepted}
@@ -23,9 +22,9 @@ no_day = record { free = 0; rows = [] }
 
 -- What the reader answers: the outcome of the tests, and the table; an empty one where the book is refused.
 unfoldable pub reading_of : Contents → Reading
-reading_of (refused n p) = record { outcome = Refused n p; table = table_of no_day }
-reading_of (accepted day) = record { outcome = Passed; table = table_of day }
+reading_of (refused n p) = record { outcome = Err (record { number = n; place = p }); table = table_of no_day }
+reading_of (accepted day) = record { outcome = Ok tt; table = table_of day }
 
 abbrev pub unless_refused : Tested → Table → Reading
-unless_refused Passed t = record { outcome = Passed; table = t }
-unless_refused (Refused n p) t = record { outcome = Refused n p; table = table_of no_day }
+unless_refused (Ok tt) t = record { outcome = Ok tt; table = t }
+unless_refused (Err (record { number = n; place = p })) t = record { outcome = Err (record { number = n; place = p }); table = table_of no_day }

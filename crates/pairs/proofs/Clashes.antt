@@ -1,6 +1,7 @@
 -- A test of row pairs by the rows: it passes exactly if no two rows clash, and otherwise stops at the earliest row that clashes with one
 -- above it.
 -- Assumes nothing.
+use Rattle.std.specs.Prelude.{Ok, Err}
 use Prim.Native.Nat.{ℕ, zero, suc, ◌+◌, ◌-◌, ◌*◌, ◌≤◌, ◌<◌}
 use native.Mathlib.Omega.{arith}
 use native.Mathlib.Decide.{dec_le}
@@ -13,8 +14,7 @@ use Rattle.schedule.specs.declared.Row.{Row}
 use Rattle.schedule.specs.Rows.{no_row, row}
 use Rattle.schedule.proofs.Numbers.{count_range, from_mem}
 use Rattle.schedule.proofs.Tests.{neither}
-use Rattle.refusals.specs.declared.Tested.{Tested}
-use Rattle.refusals.specs.declared.Tested.TheVariants.{Passed, Refused}
+use Rattle.refusals.specs.Tests.{Tested}
 use Rattle.refusals.proofs.Tests.{never}
 use Rattle.pairs.specs.Pairs.{some_entry, pair_tests}
 use Rattle.pairs.specs.Clashes.{Mutual, NoneClash, Earliest, PairsSettled, PairsSettle, unclashing, clashing}
@@ -50,9 +50,9 @@ module _ {clash : Row → Row → Bool} (ways : Mutual clash) (number : ℕ) (rs
 
   -- How the test comes out.
   data Tried : Tested → Type 0 where
-    passed : NoClashBefore (length rs) → Tried Passed
+    passed : NoClashBefore (length rs) → Tried (Ok tt)
     stopped : (a b : ℕ) → a < b → b < length rs → clash (get_or rs b no_row) (get_or rs a no_row) ≡ true → NoClashBefore b →
-        Tried (Refused number (4 * b + 2))
+        Tried (Err (record { number = number; place = 4 * b + 2 }))
 
   -- One row more that clashes with none above it.
   no_clash_on : (i : ℕ) → i < length rs → NoClashBefore i → some_entry (clash (get_or rs i no_row)) (take i rs) ≡ false → NoClashBefore (suc i)
@@ -115,10 +115,10 @@ module _ {clash : Row → Row → Bool} (ways : Mutual clash) (number : ℕ) (rs
       before (suc g) (suc k) l m n = h g k (omega arith) (omega arith)
 
   tried_settled : (o : Tested) → Tried o → PairsSettled clash number rs o
-  tried_settled Passed (passed h) = unclashing (none_clash h)
-  tried_settled (Refused _ _) (stopped a b p q e h) =
+  tried_settled (Ok tt) (passed h) = unclashing (none_clash h)
+  tried_settled (Err _) (stopped a b p q e h) =
       let same : b ≡ suc b - 1 = omega arith in
-      subst (λ (k : ℕ). PairsSettled clash number rs (Refused number (4 * k + 2))) (sym same)
+      subst (λ (k : ℕ). PairsSettled clash number rs (Err (record { number = number; place = 4 * k + 2 }))) (sym same)
       (clashing (suc a) (suc b) (earliest a b p q e h))
 
 pub pairs_settled : PairsSettle
@@ -126,19 +126,19 @@ pairs_settled clash ways number rows = tried_settled ways number rows (pair_test
 
 -- Passed exactly if no two rows clash.
 module _ {clash : Row → Row → Bool} (ways : Mutual clash) (number : ℕ) (rows : List Row) where
-  pub passed_none : pair_tests clash number rows ≡ Passed → NoneClash clash rows
+  pub passed_none : pair_tests clash number rows ≡ Ok tt → NoneClash clash rows
   passed_none e = go (pair_tests clash number rows) (pairs_settled clash ways number rows) e
     where
-      go : (o : Tested) → PairsSettled clash number rows o → o ≡ Passed → NoneClash clash rows
-      go Passed (unclashing h) f = h
-      go (Refused n p) s f = never (cc)
+      go : (o : Tested) → PairsSettled clash number rows o → o ≡ Ok tt → NoneClash clash rows
+      go (Ok tt) (unclashing h) f = h
+      go (Err (record { number = n; place = p })) s f = never (cc)
 
-  pub none_passes : NoneClash clash rows → pair_tests clash number rows ≡ Passed
+  pub none_passes : NoneClash clash rows → pair_tests clash number rows ≡ Ok tt
   none_passes h = go (pair_tests clash number rows) (pairs_settled clash ways number rows)
     where
-      go : (o : Tested) → PairsSettled clash number rows o → o ≡ Passed
-      go Passed s = refl
-      go (Refused _ _) (clashing j k e) =
+      go : (o : Tested) → PairsSettled clash number rows o → o ≡ Ok tt
+      go (Ok tt) s = refl
+      go (Err _) (clashing j k e) =
           let m = from_mem k 1 (length rows) (omega (arith, e.above)) (omega (arith, e.above)) in
           let n = from_mem j 1 (length rows) (omega (arith, e.above)) (omega (arith, e.above)) in
           let none : clash (row rows k) (row rows j) ≡ false = h k j m n in

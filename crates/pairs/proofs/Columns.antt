@@ -1,5 +1,6 @@
 -- The columns of a test of row pairs: what they say of a row is what the rows above it do.
 -- Assumes nothing.
+use Rattle.std.specs.Prelude.{Ok, Err}
 use Prim.Native.Nat.{ℕ, zero, suc, ◌+◌, ◌-◌, ◌≤◌, ◌<◌}
 use native.Mathlib.Omega.{arith}
 use native.Mathlib.Decide.{dec_le}
@@ -11,7 +12,6 @@ use lib.ListN.{length, take, get_or}
 use Rattle.schedule.specs.declared.Row.{Row}
 use Rattle.schedule.specs.Rows.{no_row}
 use Rattle.schedule.proofs.Tests.{neither, or_true}
-use Rattle.refusals.specs.declared.Tested.TheVariants.{Passed, Refused}
 use Rattle.pairs.specs.Pairs.{some_entry, number_word, pair_tests}
 use Rattle.pairs.specs.Columns.{places_clash, any_clashes, some_clash, Columned, ColumnsTested}
 use Rattle.pairs.proofs.Scans.{some_on, pairs_at, pairs_here, pairs_on, pairs_end}
@@ -87,7 +87,7 @@ module _ (dues seconds : List ℕ) (count number : ℕ) where
       ∙ rw next (pairs_on clash number rows i l (sym (above_some clash rows dues seconds c i l i (omega arith)) ∙ rw same at e))
 
   pub scan_here : (i : ℕ) → 1 ≤ i → i ≤ count → any_clashes dues seconds i (i - 1) ≡ true → ScanAt i →
-      ColumnsTested dues seconds count number (Refused number (number_word i))
+      ColumnsTested dues seconds count number (Err (record { number = number; place = number_word i }))
   scan_here zero one h e s = let x : ⊥ = omega arith in absurd x
   scan_here (suc i) one h e s = λ clash rows n c.
       let l : i < length rows = omega arith in
@@ -95,7 +95,7 @@ module _ (dues seconds : List ℕ) (count number : ℕ) where
       rw same (sym (rw same at (s clash rows n c) ∙ pairs_here clash number rows i l
       (sym (above_some clash rows dues seconds c i l i (omega arith)) ∙ rw same at e)))
 
-  pub scan_end : (i : ℕ) → count < i → ScanAt i → ColumnsTested dues seconds count number Passed
+  pub scan_end : (i : ℕ) → count < i → ScanAt i → ColumnsTested dues seconds count number (Ok tt)
   scan_end i h s clash rows n c = sym (s clash rows n c ∙ pairs_end clash number rows (i - 1) (omega arith))
 
   -- No row of the columns clashes with a row above it.
@@ -108,5 +108,5 @@ module _ (dues seconds : List ℕ) (count number : ℕ) where
       let same : suc n - 1 ≡ n = omega arith in
       scan_on (suc n) (omega arith) h (rw same both.1) (rw next at (none_on n (omega arith) both.0))
 
-  pub none_clashes : some_clash dues seconds count ≡ false → ColumnsTested dues seconds count number Passed
+  pub none_clashes : some_clash dues seconds count ≡ false → ColumnsTested dues seconds count number (Ok tt)
   none_clashes e = scan_end (count + 1) (omega arith) (none_on count (omega arith) e)

@@ -1,5 +1,6 @@
 -- The scans step by step: for an entry that passes a test, and for a row that clashes with a row above it.
 -- Assumes nothing.
+use Rattle.std.specs.Prelude.{Ok, Err}
 use Prim.Native.Nat.{ℕ, suc, ◌+◌, ◌*◌, ◌≤◌, ◌<◌}
 use native.Mathlib.Omega.{arith}
 use mathlib.Core.Bool.{Bool, true, false, ◌||◌, or-false, or_assoc}
@@ -9,8 +10,7 @@ use lib.ListN.{length, take, drop, get_or, drop_of_length-le}
 use lib.Seq.{take-suc, drop-cons}
 use Rattle.schedule.specs.declared.Row.{Row}
 use Rattle.schedule.specs.Rows.{no_row}
-use Rattle.refusals.specs.declared.Tested.{Tested}
-use Rattle.refusals.specs.declared.Tested.TheVariants.{Passed, Refused}
+use Rattle.refusals.specs.Tests.{Tested}
 use Rattle.refusals.specs.Tests.{refuse_if, ◌then◌}
 use Rattle.pairs.specs.Pairs.{some_entry, pair_tests_from}
 
@@ -30,7 +30,7 @@ module _ (clash : Row → Row → Bool) (number : ℕ) (rs : List Row) where
   pairs_at i = pair_tests_from clash number (4 * i + 2) (take i rs) (drop i rs)
 
   -- The row clashes with a row above it; with none; no row is left.
-  pub pairs_here : (i : ℕ) → i < length rs → some_entry (clash (get_or rs i no_row)) (take i rs) ≡ true → pairs_at i ≡ Refused number (4 * i + 2)
+  pub pairs_here : (i : ℕ) → i < length rs → some_entry (clash (get_or rs i no_row)) (take i rs) ≡ true → pairs_at i ≡ Err (record { number = number; place = 4 * i + 2 })
   unfolding pair_tests_from refuse_if ◌then◌
   pairs_here i h e = rw (drop-cons rs i no_row h, e)
 
@@ -41,6 +41,6 @@ module _ (clash : Row → Row → Bool) (number : ℕ) (rs : List Row) where
       rw (drop-cons rs i no_row h, e, take-suc rs i no_row h)
       (ap (λ (p : ℕ). pair_tests_from clash number p (take i rs ++ (get_or rs i no_row ∷ [])) (drop (suc i) rs)) next)
 
-  pub pairs_end : (i : ℕ) → length rs ≤ i → pairs_at i ≡ Passed
+  pub pairs_end : (i : ℕ) → length rs ≤ i → pairs_at i ≡ Ok tt
   unfolding pair_tests_from
   pairs_end i h = rw (drop_of_length-le rs h)

@@ -1,11 +1,10 @@
 -- How a test of row pairs comes out, by the numbers of the rows. The proof is `pairs_settled`, in proofs/Clashes.antt.
 -- Rests on: Pairs, the schedule's rows.
-use Rattle.std.specs.Prelude.{ℕ, ◌≤◌, ◌<◌, Bool, true, false, ◌≡◌, length}
+use Rattle.std.specs.Prelude.{ℕ, ◌≤◌, ◌<◌, Bool, true, false, ◌≡◌, length, Ok, Err}
 use mathlib.Core.List.{List, Memᴰ}
 use Rattle.schedule.specs.declared.Row.{Row}
 use Rattle.schedule.specs.Rows.{row, all_rows}
-use Rattle.refusals.specs.declared.Tested.{Tested}
-use Rattle.refusals.specs.declared.Tested.TheVariants.{Passed, Refused}
+use Rattle.refusals.specs.Tests.{Tested}
 use Rattle.pairs.specs.Pairs.{number_word, pair_tests}
 
 -- A clash goes both ways, and no row clashes with itself.
@@ -25,8 +24,8 @@ pub record Earliest (clash : Row → Row → Bool) (rows : List Row) (j k : ℕ)
 
 -- Either no two rows clash, and the test is passed; or there is such a row k, and the refusal has the test's number at k's number word.
 pub data PairsSettled (clash : Row → Row → Bool) (number : ℕ) (rows : List Row) : Tested → Type 0 where
-  unclashing : NoneClash clash rows → PairsSettled clash number rows Passed
-  clashing : (j k : ℕ) → Earliest clash rows j k → PairsSettled clash number rows (Refused number (number_word k))
+  unclashing : NoneClash clash rows → PairsSettled clash number rows (Ok tt)
+  clashing : (j k : ℕ) → Earliest clash rows j k → PairsSettled clash number rows (Err (record { number = number; place = number_word k }))
 
 -- So the test of any clash of two rows comes out.
 abbrev pub PairsSettle : Type 0

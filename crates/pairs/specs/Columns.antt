@@ -4,7 +4,7 @@
 use Rattle.std.specs.Prelude.{ℕ, zero, suc, ◌≤◌, Bool, false, ◌&&◌, ◌||◌, ◌≡◌, List, ltb, length, get_or}
 use Rattle.schedule.specs.declared.Row.{Row}
 use Rattle.schedule.specs.Rows.{row}
-use Rattle.refusals.specs.declared.Tested.{Tested}
+use Rattle.refusals.specs.Tests.{Tested}
 use Rattle.pairs.specs.Pairs.{pair_tests}
 
 -- Two rows clash, by their numbers: one has the smaller due and also the smaller second number.

@@ -1,9 +1,8 @@
 -- A test of pairs of rows: no two rows clash. Test 8 is one, and so is test 13.
 -- Rests on: the refusals, the schedule's rows.
-use Rattle.std.specs.Prelude.{ℕ, ◌+◌, ◌-◌, ◌*◌, Bool, false, ◌||◌, List, [], ◌∷◌, ◌++◌}
+use Rattle.std.specs.Prelude.{ℕ, ◌+◌, ◌-◌, ◌*◌, Bool, false, ◌||◌, List, [], ◌∷◌, ◌++◌, Ok}
 use Rattle.schedule.specs.declared.Row.{Row}
-use Rattle.refusals.specs.declared.Tested.{Tested}
-use Rattle.refusals.specs.declared.Tested.TheVariants.{Passed}
+use Rattle.refusals.specs.Tests.{Tested}
 use Rattle.refusals.specs.Tests.{refuse_if, ◌then◌, open_refusals}
 
 -- The place of the number word of row k, rows counted from 1. Row 1 begins at word 2, and a row has four words.
@@ -18,7 +17,7 @@ some_entry test (x ∷ xs) = test x || some_entry test xs
 -- The test among `rows`, which stand below the rows `above`; the first has its number word at `place`. The earliest row that clashes with
 -- any row above it counts, and the refusal has the test's number.
 unfoldable pub pair_tests_from : (clash : Row → Row → Bool) (number place : ℕ) (above rows : List Row) → Tested
-pair_tests_from clash number place above [] = Passed
+pair_tests_from clash number place above [] = Ok tt
 pair_tests_from clash number place above (r ∷ rows) =
     refuse_if (some_entry (clash r) above) number place then
     pair_tests_from clash number (place + 4) (above ++ (r ∷ [])) rows

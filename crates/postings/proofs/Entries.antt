@@ -1,5 +1,6 @@
 -- The entries of a posting, as a loop tests them: marks say what was seen.
 -- Assumes nothing.
+use Rattle.std.specs.Prelude.{Ok, Err}
 use Prim.Native.Nat.{ℕ, zero, suc, ◌+◌, ◌≤◌, ◌<◌, min}
 use native.Mathlib.Omega.{arith}
 use native.Mathlib.Decide.{ℕ_discrete}
@@ -15,7 +16,6 @@ use Rattle.schedule.specs.Limits.{row_places}
 use Rattle.schedule.specs.Rows.{stands}
 use Rattle.schedule.proofs.Tests.{neither}
 use Rattle.schedule.proofs.Stands.{stands_none, stands_more}
-use Rattle.refusals.specs.declared.Tested.TheVariants.{Passed, Refused}
 use Rattle.refusals.specs.Refusals.{by_not_posting}
 use Rattle.refusals.specs.Tests.{refuse_if, ◌then◌}
 use Rattle.postings.specs.Posting.{entry_tests, posting_tests}
@@ -62,7 +62,7 @@ module _ (n : ℕ) (posting s : List ℕ) (k : ℕ) (h : k < length posting) whe
   entry_step = rw (add-one k) (ap (entry_tests n s k) (drop-cons posting k 0 h) ∙ rw (add-one k) refl)
 
   pub entry_stray : (eqb (get_or posting k 0) 0 || ltb n (get_or posting k 0) || stands (get_or posting k 0) s) ≡ true →
-      entry_tests n s k (drop k posting) ≡ Refused by_not_posting k
+      entry_tests n s k (drop k posting) ≡ Err (record { number = by_not_posting; place = k })
   unfolding refuse_if ◌then◌
   entry_stray e = entry_step ∙ rw e refl
 
@@ -71,19 +71,19 @@ module _ (n : ℕ) (posting s : List ℕ) (k : ℕ) (h : k < length posting) whe
   unfolding refuse_if ◌then◌
   entry_fine e = entry_step ∙ rw e refl
 
-pub entries_end : (n : ℕ) (posting s : List ℕ) (k : ℕ) → k ≡ length posting → entry_tests n s k (drop k posting) ≡ Passed
+pub entries_end : (n : ℕ) (posting s : List ℕ) (k : ℕ) → k ≡ length posting → entry_tests n s k (drop k posting) ≡ Ok tt
 unfolding entry_tests
 entries_end n posting s k e = ap (entry_tests n s k) (ap (λ (m : ℕ). drop m posting) e ∙ drop-length posting)
 
 -- The length of a posting.
-pub posting_short : (n : ℕ) (posting : List ℕ) → length posting < n → Refused by_not_posting (length posting) ≡ posting_tests n posting
+pub posting_short : (n : ℕ) (posting : List ℕ) → length posting < n → Err (record { number = by_not_posting; place = length posting }) ≡ posting_tests n posting
 unfolding posting_tests refuse_if ◌then◌
 posting_short n posting h =
     let d : length posting ≡ n → ⊥ = λ e. omega arith in
     let m : min (length posting) n ≡ length posting = omega arith in
     rw (ne_eqb (length posting) n d, m) refl
 
-pub posting_long : (n : ℕ) (posting : List ℕ) → n < length posting → Refused by_not_posting n ≡ posting_tests n posting
+pub posting_long : (n : ℕ) (posting : List ℕ) → n < length posting → Err (record { number = by_not_posting; place = n }) ≡ posting_tests n posting
 unfolding posting_tests refuse_if ◌then◌
 posting_long n posting h =
     let d : length posting ≡ n → ⊥ = λ e. omega arith in

@@ -1,5 +1,6 @@
 -- Test 10 passes exactly the orders of the rows.
 -- Assumes nothing.
+use Rattle.std.specs.Prelude.{Ok}
 use Prim.Native.Nat.{ℕ, zero, suc, ◌+◌, ◌≤◌, ◌<◌, min}
 use native.Mathlib.Omega.{arith}
 use mathlib.Core.Bool.{Bool, true, false, not, cond, ◌||◌}
@@ -15,7 +16,6 @@ use Rattle.schedule.proofs.Orders.{one, count, count_mem, count_without, length_
 use Rattle.schedule.proofs.Numbers.{count_range, from_mem, count_once}
 use Rattle.schedule.proofs.Tests.{nor, nor_both, is_false}
 use Rattle.schedule.proofs.Stands.{stands_none, stands_more}
-use Rattle.refusals.specs.declared.Tested.TheVariants.{Passed}
 use Rattle.refusals.specs.Refusals.{by_not_posting}
 use Rattle.refusals.specs.Tests.{refuse_if}
 use Rattle.schedule.specs.Rows.{stands}
@@ -82,7 +82,7 @@ left_next n seen left i h m = record {
     gone g = omega (arith, count_without i left m i, one_self i, mem_count (without i left) g, h.once i)
 
 entries_order : (n : ℕ) (seen : List ℕ) (place : ℕ) (is left : List ℕ) → Left n seen left → length is ≡ length left →
-    entry_tests n seen place is ≡ Passed →
+    entry_tests n seen place is ≡ Ok tt →
     Memᴰ is (orders_of (length is) left)
 unfolding entry_tests
 entries_order n seen place [] left h l p = unfold orders_of in mathlib.Core.List.Memᴰ.head refl
@@ -102,7 +102,7 @@ entries_order n seen place (i ∷ is) left h l p =
     positive (suc i) g = omega arith
 
 order_entries : (n : ℕ) (seen : List ℕ) (place k : ℕ) (is left : List ℕ) → Left n seen left → Memᴰ is (orders_of k left) →
-    entry_tests n seen place is ≡ Passed
+    entry_tests n seen place is ≡ Ok tt
 unfolding entry_tests orders_of
 order_entries n seen place k [] left h m = refl
 order_entries n seen place zero (i ∷ is) left h m = absurd (nothing (mathlib.Core.List.Memᴰ.cases_cons m))
@@ -135,7 +135,7 @@ left_all n = record {
   once = λ k. count_once k 1 n;
 }
 
-pub posting_order : (n : ℕ) (posting : List ℕ) → length (count_from 1 n) ≡ n → posting_tests n posting ≡ Passed →
+pub posting_order : (n : ℕ) (posting : List ℕ) → length (count_from 1 n) ≡ n → posting_tests n posting ≡ Ok tt →
     Memᴰ posting (orders_of n (count_from 1 n))
 unfolding posting_tests
 posting_order n posting l e =
@@ -149,7 +149,7 @@ posting_order n posting l e =
     same false f e = absurd (subst T e tt)
 
 pub order_posting : (n : ℕ) (posting : List ℕ) → length posting ≡ n → Memᴰ posting (orders_of n (count_from 1 n)) →
-    posting_tests n posting ≡ Passed
+    posting_tests n posting ≡ Ok tt
 order_posting n posting l m =
     unfold posting_tests in then_passes (not (eqb (length posting) n)) by_not_posting (min (length posting) n) (entry_tests n [] 0 posting)
     (twice (eqb (length posting) n) (subst (λ (k : ℕ). T (eqb (length posting) k)) l (eqb_refl (length posting))))

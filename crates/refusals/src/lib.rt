@@ -1,18 +1,18 @@
-// The table of refusals: the number that each has, and tests that run one after another.
+// The table of refusals: the number that each has, and a test that refuses.
 #![tactic(auto)]
 
 ghost use Rattle.std.specs.Prelude.{◌≡◌};
-ghost use Rattle.refusals.specs.Tests.{refuse_if, ◌then◌};
+ghost use Rattle.refusals.specs.Tests.{refuse_if};
 
-// Tests are passed, or a call is refused: the number and the place of the table of refusals.
-#[derive(Clone, Copy)]
-pub enum Tested {
-    Passed,
-    Refused(u32, usize),
+// A call is refused: the number and the place of the table of refusals.
+#[derive(Clone, Copy, PartialEq, Eq)]
+pub struct Refusal {
+    pub number: u32,
+    pub place: usize,
 }
 
 // The numbers of the table of refusals.
-impl Tested {
+impl Refusal {
     pub const CUT: u32 = 1;
 
     pub const KIND: u32 = 2;
@@ -48,23 +48,13 @@ impl Tested {
     pub const UNREACHABLE: u32 = 17;
 }
 
-// One test: where it is true, the refusal.
-pub fn refuse_if(test: bool, number: u32, place: usize) -> Tested
+// One test: where it is true, the refusal. Tests in sequence are left at the first refusal, by `?`.
+pub fn refuse_if(test: bool, number: u32, place: usize) -> Result<(), Refusal>
     ensures { result ≡ refuse_if test number place }
 {
     if test {
-        Tested::Refused(number, place)
+        Err(Refusal { number, place })
     } else {
-        Tested::Passed
-    }
-}
-
-// Tests in sequence: the first refusal counts.
-pub fn then(first: Tested, next: Tested) -> Tested
-    ensures { result ≡ (first then next) }
-{
-    match first {
-        Tested::Passed => next,
-        Tested::Refused(_, _) => first,
+        Ok(())
     }
 }

@@ -9,8 +9,7 @@ use lib.Dec.{leb, eqb}
 use lib.ListN.{length, get_or}
 use borrow.Author.Tests.{leb-false, leb-true}
 use Rattle.schedule.specs.Limits.{latest_due, latest_minute, longest_length, most_rows}
-use Rattle.std.specs.Prelude.{Option, None, Some}
-use Rattle.refusals.specs.declared.Tested.TheVariants.{Passed}
+use Rattle.std.specs.Prelude.{Option, None, Some, Ok}
 use Rattle.refusals.proofs.Tests.{never, then_left, then_right, not_refused}
 use Rattle.words.specs.Words.{kind, value, word}
 use Rattle.words.proofs.Words.{Word, word_fits}
@@ -56,11 +55,11 @@ pub record DueFit (ws : List ℕ) : Type 0 where
   pub class : Margined (class_of ws)
   pub most : (release minutes : ℕ) → release ≤ latest_minute → minutes ≤ longest_length → due_of release minutes ws ≤ latest_due
 
-due_fits : (place : ℕ) (ws : List ℕ) → due_tests place ws ≡ Passed → DueFit ws
+due_fits : (place : ℕ) (ws : List ℕ) → due_tests place ws ≡ Ok tt → DueFit ws
 unfolding tests_by due_by
 due_fits place ws e = let g = go (class_of ws) (class_value ws) e in record { there = g.0; class = g.1; most = g.2 }
   where
-    go : (k : Option ℕ) → ((c : ℕ) → k ≡ Some c → c ≡ value (word ws 3)) → tests_by k place ws ≡ Passed →
+    go : (k : Option ℕ) → ((c : ℕ) → k ≡ Some c → c ≡ value (word ws 3)) → tests_by k place ws ≡ Ok tt →
         (3 < length ws) × Margined k × ((release minutes : ℕ) → release ≤ latest_minute → minutes ≤ longest_length →
         due_by k release minutes (value (word ws 3)) ≤ latest_due)
     go None same f = let w = word_fits 6 0 latest_due place ws 3 f in (w.there, tt, λ release minutes r l. w.most)
@@ -76,7 +75,7 @@ pub record Fit (numbers ws : List ℕ) : Type 0 where
   pub pages : Word 1 2000 ws 2
   pub due : DueFit ws
 
-pub row_fits : (numbers : List ℕ) (place : ℕ) (ws : List ℕ) → row_tests numbers place ws ≡ Passed → Fit numbers ws
+pub row_fits : (numbers : List ℕ) (place : ℕ) (ws : List ℕ) → row_tests numbers place ws ≡ Ok tt → Fit numbers ws
 unfolding row_tests number_tests
 row_fits numbers place ws e =
     let n = then_right _ _ (then_left _ _ e) in

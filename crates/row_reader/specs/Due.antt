@@ -2,7 +2,7 @@
 -- Rests on: the words, Margins. As there, `ws` is the book from `place` on, here from the number word of a row: its word 3 is the one.
 use Rattle.std.specs.Prelude.{ℕ, ◌+◌, cond, List, eqb, Option, None, Some}
 use Rattle.schedule.specs.Limits.{latest_due}
-use Rattle.refusals.specs.declared.Tested.{Tested}
+use Rattle.refusals.specs.Tests.{Tested}
 use Rattle.words.specs.Words.{kind, value, word}
 use Rattle.row_reader.specs.Margins.{margin}
 use Rattle.words.specs.WordTests.{word_tests, open_words}

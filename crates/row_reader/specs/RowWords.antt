@@ -4,7 +4,7 @@ use Rattle.std.specs.Prelude.{ℕ, List, map, leb, length}
 use Rattle.schedule.specs.Limits.{latest_minute, most_rows, most_pages}
 use Rattle.schedule.specs.declared.Row.{Row}
 use Rattle.schedule.specs.Rows.{stands}
-use Rattle.refusals.specs.declared.Tested.{Tested}
+use Rattle.refusals.specs.Tests.{Tested}
 use Rattle.refusals.specs.Refusals.{by_twice, by_full}
 use Rattle.refusals.specs.Tests.{refuse_if, ◌then◌}
 use Rattle.words.specs.Words.{value, word}

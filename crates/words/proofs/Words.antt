@@ -1,5 +1,6 @@
 -- What passed tests say of a word.
 -- Assumes nothing.
+use Rattle.std.specs.Prelude.{Ok}
 use Prim.Native.Nat.{ℕ, ◌+◌, ◌≤◌, ◌<◌}
 use mathlib.Core.Bool.{Bool, true, false, ◌||◌}
 use mathlib.Core.Path.{◌≡◌, refl}
@@ -7,7 +8,6 @@ use mathlib.Core.List.{List}
 use lib.Dec.{ltb}
 use lib.ListN.{length}
 use borrow.Author.Tests.{ltb-false, leb-false}
-use Rattle.refusals.specs.declared.Tested.TheVariants.{Passed}
 use Rattle.refusals.specs.Refusals.{by_range}
 use Rattle.refusals.specs.Tests.{refuse_if}
 use Rattle.refusals.proofs.Tests.{never, then_left, then_right, not_refused}
@@ -24,11 +24,11 @@ pub record Word (lo hi : ℕ) (ws : List ℕ) (i : ℕ) : Type 0 where
   pub least : lo ≤ value (word ws i)
   pub most : value (word ws i) ≤ hi
 
-kind_there : (k place : ℕ) (ws : List ℕ) (i : ℕ) → kind_tests k place ws i ≡ Passed → i < length ws
+kind_there : (k place : ℕ) (ws : List ℕ) (i : ℕ) → kind_tests k place ws i ≡ Ok tt → i < length ws
 unfolding kind_tests
 kind_there k place ws i e = leb-false (length ws) i (not_refused _ _ _ (then_left _ _ e))
 
-pub word_fits : (k lo hi place : ℕ) (ws : List ℕ) (i : ℕ) → word_tests k lo hi place ws i ≡ Passed → Word lo hi ws i
+pub word_fits : (k lo hi place : ℕ) (ws : List ℕ) (i : ℕ) → word_tests k lo hi place ws i ≡ Ok tt → Word lo hi ws i
 unfolding word_tests
 word_fits k lo hi place ws i e =
     let v = value (word ws i) in

@@ -1,7 +1,7 @@
 -- The tests 1 to 3 at a word. `ws` is the book from `place` on: the rest that is still to be read.
 -- Rests on: Words, the refusals.
 use Rattle.std.specs.Prelude.{ℕ, ◌+◌, Bool, not, ◌||◌, List, leb, ltb, eqb, length}
-use Rattle.refusals.specs.declared.Tested.{Tested}
+use Rattle.refusals.specs.Tests.{Tested}
 use Rattle.refusals.specs.Refusals.{by_cut, by_kind, by_range}
 use Rattle.refusals.specs.Tests.{refuse_if, ◌then◌, open_refusals}
 use Rattle.words.specs.Words.{kind, value, word}

@@ -1,5 +1,6 @@
 -- `read_rows` meets its contract: each turn of the loop is one step of `read_rows`, with the rest of the book as a part of its own.
 -- Assumes nothing.
+use Rattle.std.specs.Prelude.{Ok}
 use Prim.Native.Nat.{ℕ, ◌≤◌, ◌<◌, ◌+◌, ◌-◌}
 use native.Mathlib.Omega.{arith}
 use mathlib.Core.Bool.{Bool, true, false}
@@ -8,10 +9,9 @@ use mathlib.Core.List.{List}
 use lib.ListN.{length, take, drop, length-drop}
 use lib.Seq.{drop-drop}
 use Rattle.schedule.specs.Limits.{most_rows}
-use Rattle.refusals.specs.declared.Tested.{Tested}
-use Rattle.refusals.specs.declared.Tested.TheVariants.{Passed}
+use Rattle.refusals.specs.Tests.{Tested}
 use Rattle.row_reader.specs.RowWords.{row_tests, row_of}
-use Rattle.row_reader.specs.declared.RowRead.{RowRead}
+use Rattle.row_reader.specs.Answers.{RowRead}
 use Rattle.row_reader.specs.Cited.{row_read_of}
 use Rattle.book.specs.Rows.{end_stands, end_tests}
 use Rattle.book.specs.Tables.{table_of, unless_refused}
@@ -34,7 +34,7 @@ row_is count at pace k numbers ws e =
     e ∙ ap (λ (rest : List ℕ). row_read_of (row_tests (take count numbers) at rest) (row_of pace rest)) (part_end k ws)
 
 -- A row that passed its tests has four words.
-long : (at : ℕ) (numbers ws : List ℕ) → row_tests numbers at (drop at ws) ≡ Passed → at + 4 ≤ length ws
+long : (at : ℕ) (numbers ws : List ℕ) → row_tests numbers at (drop at ws) ≡ Ok tt → at + 4 ≤ length ws
 long at numbers ws h = omega (arith, (row_fits numbers at (drop at ws) h).due.there, length-drop at ws)
 
 pub loop-numbers-init : goal.loop-numbers-init
