@@ -5,7 +5,7 @@ ghost use Rattle.std.specs.Prelude.{◌≡◌, ◌-◌, ◌≤◌, length};
 ghost use Rattle.schedule.specs.Limits.{most_rows, row_places};
 ghost use Rattle.pairs.specs.Columns.{pair_clashes, any_clashes, some_clash, ColumnsTested};
 
-use refusals::Tested;
+use refusals::Refusal;
 use schedule::Desk;
 
 // Two rows clash: one has the smaller due and also the smaller second number. Every side is worked out: a branch that goes either way from
@@ -48,7 +48,7 @@ fn earliest_clash(
     seconds: &[u32; Desk::PLACES],
     count: usize,
     number: u32,
-) -> Tested
+) -> Result<(), Refusal>
     requires { (count ≤ most_rows) × (length dues.now ≡ row_places) × (length seconds.now ≡ row_places) }
     ensures { ColumnsTested dues.now seconds.now count number result }
 {
@@ -56,11 +56,11 @@ fn earliest_clash(
         for j in 1..i {
             if pair_clashes(dues[i], seconds[i], dues[j], seconds[j]) {
                 let place = 4 * (i - 1) + 2;
-                return Tested::Refused(number, place);
+                return Err(Refusal { number, place });
             }
         }
     }
-    Tested::Passed
+    Ok(())
 }
 
 // The test of row pairs, over the columns of the rows. Most books have no clash: so it is asked first whether there is one, without a
@@ -70,13 +70,13 @@ pub fn pair_tests(
     seconds: &[u32; Desk::PLACES],
     count: usize,
     number: u32,
-) -> Tested
+) -> Result<(), Refusal>
     requires { (count ≤ most_rows) × (length dues.now ≡ row_places) × (length seconds.now ≡ row_places) }
     ensures { ColumnsTested dues.now seconds.now count number result }
 {
     if any_clash(dues, seconds, count) {
         earliest_clash(dues, seconds, count, number)
     } else {
-        Tested::Passed
+        Ok(())
     }
 }

@@ -5,13 +5,19 @@ use native.Mathlib.Omega.{arith}
 use mathlib.Core.Bool.{Bool, true, false, not}
 use mathlib.Core.Path.{◌≡◌, refl}
 use lib.Dec.{T}
-use Rattle.std.specs.Prelude.{Ok, Err}
+use Rattle.std.specs.Prelude.{Result, Ok, Err}
+use Rattle.std.specs.Result.{IsErrAnd}
+use Rattle.std.proofs.lemmas.Result.{err_from_is_err_and}
 use Rattle.refusals.specs.declared.Refusal.{Refusal}
 use Rattle.refusals.specs.Tests.{Tested, refuse_if, ◌then◌}
 
 -- Two constructors are never equal: `cc` then proves 0 ≡ 1, and all else follows.
 pub never : {P : Type 0} → ◌≡◌ {A = ℕ} 0 1 → P
 never e = let x : ⊥ = omega arith in absurd x
+
+-- A refusal that `?` hands on.
+pub handed_on : {A : Type 0} {refusal : Refusal} (r : Result A Refusal) → IsErrAnd r (λ e. e ≡ refusal) → r ≡ Err refusal
+handed_on r h = let p = err_from_is_err_and r h in rw (p.1, p.2) refl
 
 -- Tests in sequence, taken up after the first: where it is refused, and where it is passed.
 pub then_refused : {a : Tested} (b : Tested) {refusal : Refusal} → a ≡ Err refusal → (a then b) ≡ Err refusal
