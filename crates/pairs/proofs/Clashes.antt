@@ -131,7 +131,7 @@ module _ {clash : Row → Row → Bool} (ways : Mutual clash) (number : ℕ) (ro
     where
       go : (o : Tested) → PairsSettled clash number rows o → o ≡ Ok tt → NoneClash clash rows
       go (Ok tt) (unclashing h) f = h
-      go (Err (record { number = n; place = p })) s f = never (cc)
+      go (Err refusal) s f = never (cc)
 
   pub none_passes : NoneClash clash rows → pair_tests clash number rows ≡ Ok tt
   none_passes h = go (pair_tests clash number rows) (pairs_settled clash ways number rows)
