@@ -5,7 +5,7 @@ ghost use Rattle.std.specs.Prelude.{◌≡◌, false, ◌||◌, [], ◌≤◌, e
 ghost use Rattle.schedule.specs.Limits.{most_rows, row_places};
 ghost use Rattle.postings.specs.Posting.{entry_tests, posting_tests};
 
-use refusals::Tested;
+use refusals::Refusal;
 use schedule::Desk;
 
 // An entry of a posting that is no row of n, or is marked as seen before.
@@ -18,28 +18,34 @@ fn is_stray(seen: &[bool; Desk::PLACES], n: usize, entry: u32) -> bool
 }
 
 // The entries of a posting of n rows one after another.
-fn entry_tests(n: usize, posting: &[u32]) -> Tested
+fn entry_tests(n: usize, posting: &[u32]) -> Result<(), Refusal>
     requires { (n ≤ most_rows) × (length posting.now ≡ n) }
     ensures { result ≡ entry_tests n [] 0 posting.now }
 {
     let mut seen = [false; Desk::PLACES];
     for (k, &entry) in posting.iter().enumerate() {
         if is_stray(&seen, n, entry) {
-            return Tested::Refused(Tested::NOT_POSTING, k);
+            return Err(Refusal {
+                number: Refusal::NOT_POSTING,
+                place: k,
+            });
         }
         seen[entry as usize] = true;
     }
-    Tested::Passed
+    Ok(())
 }
 
 // Whether a posting has every row of n once: its length first, then its entries.
-pub fn posting_tests(n: usize, posting: &[u32]) -> Tested
+pub fn posting_tests(n: usize, posting: &[u32]) -> Result<(), Refusal>
     requires { n ≤ most_rows }
     ensures { result ≡ posting_tests n posting.now }
 {
     let size = posting.len();
     if size != n {
-        return Tested::Refused(Tested::NOT_POSTING, size.min(n));
+        return Err(Refusal {
+            number: Refusal::NOT_POSTING,
+            place: size.min(n),
+        });
     }
     entry_tests(n, posting)
 }
