@@ -1,9 +1,9 @@
 -- What only contracts cite: how a row is read.
 -- Rests on: the rows of a table.
-use Rattle.std.specs.Prelude.{ℕ, ◌<◌, Option, None, Some, Ok, Err}
+use Rattle.std.specs.Prelude.{ℕ, ◌<◌, Option, None, Some, Result, Ok, Err}
 use Rattle.schedule.specs.declared.Row.{Row}
+use Rattle.refusals.specs.declared.Refusal.{Refusal}
 use Rattle.refusals.specs.Tests.{Tested}
-use Rattle.row_reader.specs.Answers.{RowRead}
 
 -- A class that has a margin.
 abbrev pub Margined : Option ℕ → Type 0
@@ -11,6 +11,6 @@ Margined None = Unit {0}
 Margined (Some c) = c < 8
 
 -- What the row reader answers: the row whose tests are passed, or the refusal.
-unfoldable pub row_read_of : Tested → Row → RowRead
-row_read_of (Ok tt) r = Ok r
-row_read_of (Err (record { number = n; place = p })) r = Err (record { number = n; place = p })
+unfoldable pub row_read_of : Tested → Row → Result Row Refusal
+row_read_of (Ok _) r = Ok r
+row_read_of (Err refusal) r = Err refusal

@@ -13,23 +13,14 @@ ghost use Rattle.row_reader.specs.RowWords.{number_tests, row_tests, row_of};
 ghost use Rattle.row_reader.specs.Cited.{row_read_of};
 ghost use Rattle.row_reader.specs.NearestMinute.{length_of};
 
-use refusals::Tested;
+use refusals::Refusal;
 use schedule::{Desk, Row};
 
 // The margins in minutes of the turnaround classes, from class 0 on.
 const MARGINS: [u32; 8] = [60, 120, 480, 1_440, 4_320, 10_080, 20_160, 43_200];
 
-// The answer of the row reader: the row that its words make, or the refusal.
-#[derive(Clone, Copy)]
-pub enum RowRead {
-    Whole(Row),
-    Refused(u32, usize),
-}
-
-impl RowRead {
-    // The last turnaround class.
-    pub const LAST_CLASS: u32 = 7;
-}
+// The last turnaround class.
+const LAST_CLASS: u32 = 7;
 
 // The number stands among the first `count` numbers. The loop goes on where it is found: so it has no branch, and several places are
 // compared at a time.
@@ -47,16 +38,20 @@ fn number_stands(numbers: &[u32; Desk::ROWS], count: usize, number: u32) -> bool
 }
 
 // Cut, kind, full and twice at a number word.
-fn number_tests(numbers: &[u32; Desk::ROWS], count: usize, place: usize, rest: &[u32]) -> Tested
+fn number_tests(
+    numbers: &[u32; Desk::ROWS],
+    count: usize,
+    place: usize,
+    rest: &[u32],
+) -> Result<(), Refusal>
     requires { (place ≤ last_start) × (count ≤ most_rows) × (length numbers.now ≡ most_rows) }
     ensures { result ≡ number_tests (take count numbers.now) place rest.now }
 {
-    let due = words::kind_tests(3, place, rest, 0);
-    let full = refusals::refuse_if(Desk::ROWS <= count, Tested::FULL, place);
+    words::kind_tests(3, place, rest, 0)?;
+    refusals::refuse_if(Desk::ROWS <= count, Refusal::FULL, place)?;
     let number = words::value_of(words::word_at(rest, 0));
     let stands = number_stands(numbers, count, number);
-    let twice = refusals::refuse_if(stands, Tested::TWICE, place);
-    refusals::then(due, refusals::then(full, twice))
+    refusals::refuse_if(stands, Refusal::TWICE, place)
 }
 
 // The class of a row, or that it has none: a word of kind 0 in the place of the due word is a class.
@@ -72,26 +67,30 @@ fn class_of(rest: &[u32]) -> Option<u32>
 }
 
 // The tests of the due word, or of the class word in its place.
-fn due_tests(place: usize, rest: &[u32]) -> Tested
+fn due_tests(place: usize, rest: &[u32]) -> Result<(), Refusal>
     requires { place ≤ last_start }
     ensures { result ≡ due_tests place rest.now }
 {
     match class_of(rest) {
         None => words::word_tests(6, 0, Desk::DUES, place, rest, 3),
-        Some(_) => words::word_tests(0, 0, RowRead::LAST_CLASS, place, rest, 3),
+        Some(_) => words::word_tests(0, 0, LAST_CLASS, place, rest, 3),
     }
 }
 
 // The tests of a row's four words.
-fn row_tests(numbers: &[u32; Desk::ROWS], count: usize, place: usize, rest: &[u32]) -> Tested
+fn row_tests(
+    numbers: &[u32; Desk::ROWS],
+    count: usize,
+    place: usize,
+    rest: &[u32],
+) -> Result<(), Refusal>
     requires { (place ≤ last_start) × (count ≤ most_rows) × (length numbers.now ≡ most_rows) }
     ensures { result ≡ row_tests (take count numbers.now) place rest.now }
 {
-    let number = number_tests(numbers, count, place, rest);
-    let release = words::word_tests(4, 0, Desk::MINUTES, place, rest, 1);
-    let pages = words::word_tests(5, 1, Desk::PAGES, place, rest, 2);
-    let due = due_tests(place, rest);
-    refusals::then(number, refusals::then(release, refusals::then(pages, due)))
+    number_tests(numbers, count, place, rest)?;
+    words::word_tests(4, 0, Desk::MINUTES, place, rest, 1)?;
+    words::word_tests(5, 1, Desk::PAGES, place, rest, 2)?;
+    due_tests(place, rest)
 }
 
 // Length: pages × 60 divided by pace, to the nearest minute, an exact half going up.
@@ -156,15 +155,12 @@ pub fn read_row(
     pace: u32,
     place: usize,
     rest: &[u32],
-) -> RowRead
+) -> Result<Row, Refusal>
     requires { (place ≤ last_start) × (count ≤ most_rows) × (length numbers.now ≡ most_rows)
         × (least_pace ≤ pace) × (pace ≤ most_pace) }
     ensures { result ≡ row_read_of (row_tests (take count numbers.now) place rest.now)
         (row_of pace rest.now) }
 {
-    let tested = row_tests(numbers, count, place, rest);
-    match tested {
-        Tested::Passed => RowRead::Whole(row_of(pace, rest)),
-        Tested::Refused(n, p) => RowRead::Refused(n, p),
-    }
+    row_tests(numbers, count, place, rest)?;
+    Ok(row_of(pace, rest))
 }
