@@ -11,31 +11,30 @@ use Rattle.schedule.specs.Limits.{most_rows}
 use Rattle.schedule.specs.declared.Row.{Row}
 use Rattle.refusals.specs.Tests.{Tested}
 use Rattle.book.specs.declared.Table.{Table}
-use Rattle.book.specs.declared.Reading.{Reading}
+use Rattle.refusals.specs.declared.Refusal.{Refusal}
 use Rattle.row_reader.specs.RowWords.{numbers_of, row_tests, row_of}
 use Rattle.row_reader.specs.Cited.{row_read_of}
 use Rattle.book.specs.Rows.{accepted, day_of, refused_or, end_stands, end_tests, tried_rows, read_rows}
-use Rattle.book.specs.Tables.{table_of, no_day, table_rows, reading_of, unless_refused}
+use Rattle.book.specs.Tables.{table_of, table_rows, reading_of}
 use Rattle.refusals.proofs.Tests.{never}
 use Rattle.row_reader.proofs.Tests.{row_fits}
 use Rattle.book.proofs.Tables.{Filled, filled_start, filled_size, filled_on, Column, column_start, column_on, pushed, pushed_rows_lem}
-use Rattle.book.proofs.Tables.{unless_refused_is}
 
 -- The row reader's answer, taken apart.
 pub whole_tests : (o : Tested) (r q : Row) → Ok q ≡ row_read_of o r → o ≡ Ok tt
 unfolding row_read_of
-whole_tests (Ok tt) r q e = refl
-whole_tests (Err (record { number = n; place = p })) r q e = never (cc)
+whole_tests (Ok _) r q e = refl
+whole_tests (Err refusal) r q e = never (cc)
 
 pub whole_row : (o : Tested) (r q : Row) → Ok q ≡ row_read_of o r → q ≡ r
 unfolding row_read_of
-whole_row (Ok tt) r q e = cc
-whole_row (Err (record { number = n; place = p })) r q e = never (cc)
+whole_row (Ok _) r q e = cc
+whole_row (Err refusal) r q e = never (cc)
 
-pub refused_tests : (o : Tested) (r : Row) (n p : ℕ) → Err (record { number = n; place = p }) ≡ row_read_of o r → o ≡ Err (record { number = n; place = p })
+pub refused_tests : (o : Tested) (r : Row) (refusal : Refusal) → Err refusal ≡ row_read_of o r → o ≡ Err refusal
 unfolding row_read_of
-refused_tests (Ok tt) r n p e = never (cc)
-refused_tests (Err (record { number = m; place = q })) r n p e = cc
+refused_tests (Ok _) r refusal e = never (cc)
+refused_tests (Err told) r refusal e = cc
 
 -- One step of the rows: the end, or a row.
 module _ (more free pace : ℕ) (rows : List Row) (place : ℕ) (ws : List ℕ) where
@@ -73,21 +72,32 @@ module _ {free pace : ℕ} {words : List ℕ} {t : Table} {numbers : List ℕ} {
   abbrev tests : Tested
   tests = row_tests (take t.count numbers) place rest
 
-  pub reached_end : end_stands t.count rest ≡ true → unless_refused (end_tests t.count place rest) t ≡ reading_of
-      (read_rows tried_rows free pace [] 2 words)
-  reached_end e =
+  -- The end word: what the rows give is what its tests leave of the table.
+  ended : end_stands t.count rest ≡ true → read_rows tried_rows free pace [] 2 words ≡ refused_or (end_tests t.count place rest)
+      (accepted (day_of free (table_rows t)))
+  ended e =
       let r = read_end (most_rows - t.count) free pace (table_rows t) place rest (rw size e) in
-      rw (h.same, more, r, size) (unless_refused_is (end_tests t.count place rest) free t h.filled.laid)
+      rw (h.same, more, r, size) refl
+
+  pub reached_end : end_stands t.count rest ≡ true → end_tests t.count place rest ≡ Ok tt →
+      Ok t ≡ reading_of (read_rows tried_rows free pace [] 2 words)
+  unfolding reading_of
+  reached_end e g = rw (ended e, g) (ap Ok h.filled.laid)
+
+  pub reached_end_refused : (refusal : Refusal) → end_stands t.count rest ≡ true → end_tests t.count place rest ≡ Err refusal →
+      Err refusal ≡ reading_of (read_rows tried_rows free pace [] 2 words)
+  unfolding reading_of
+  reached_end_refused refusal e g = rw (ended e, g) refl
 
   tested : end_stands t.count rest ≡ false →
       read_rows tried_rows free pace [] 2 words ≡ refused_or tests
       (read_rows (most_rows - t.count) free pace (table_rows t ++ (row_of pace rest ∷ [])) (place + 4) (drop 4 rest))
   tested e = rw (h.same, more, h.column.same) (read_on_lem (most_rows - t.count) free pace (table_rows t) place rest (rw size e))
 
-  pub reached_refused : (n p : ℕ) → end_stands t.count rest ≡ false → tests ≡ Err (record { number = n; place = p }) →
-      ◌≡◌ {A = Reading} (record { outcome = Err (record { number = n; place = p }); table = table_of no_day }) (reading_of (read_rows tried_rows free pace [] 2 words))
+  pub reached_refused : (refusal : Refusal) → end_stands t.count rest ≡ false → tests ≡ Err refusal →
+      Err refusal ≡ reading_of (read_rows tried_rows free pace [] 2 words)
   unfolding reading_of
-  reached_refused n p e g = rw (tested e, g)
+  reached_refused refusal e g = rw (tested e, g) refl
 
   pub reached_room : tests ≡ Ok tt → t.count < most_rows
   reached_room g =

@@ -1,6 +1,5 @@
 -- Tables and their rows: what an array holds, and a table with one row more.
 -- Assumes nothing.
-use Rattle.std.specs.Prelude.{Ok, Err}
 use Prim.Native.Nat.{ℕ, suc, ◌+◌, ◌-◌, ◌≤◌, ◌<◌}
 use native.Mathlib.Omega.{arith}
 use native.Mathlib.Numerals.{add-one}
@@ -11,11 +10,10 @@ use lib.Seq.{get_or-take, take-suc-set, set_at, take_all, take-append_seam}
 use Rattle.schedule.specs.Limits.{most_rows}
 use Rattle.schedule.specs.declared.Row.{Row}
 use Rattle.schedule.specs.Rows.{no_row, Day}
-use Rattle.refusals.specs.Tests.{Tested}
 use Rattle.book.specs.declared.Table.{Table}
 use Rattle.row_reader.specs.RowWords.{numbers_of}
-use Rattle.book.specs.Rows.{accepted, day_of, refused_or}
-use Rattle.book.specs.Tables.{table_of, table_rows, reading_of, unless_refused}
+use Rattle.book.specs.Rows.{day_of}
+use Rattle.book.specs.Tables.{table_of, table_rows}
 
 -- The rows of a table.
 pub rows_length : (t : Table) → t.count ≤ most_rows → length t.rows ≡ most_rows → length (table_rows t) ≡ t.count
@@ -36,13 +34,6 @@ table_places day h = omega (
 pub table_rows_lem : (day : Day) → table_rows (table_of day) ≡ day.rows
 unfolding table_of
 table_rows_lem day = take-append_seam day.rows (replicate (most_rows - length day.rows) no_row)
-
--- What the reader answers after the last test.
-pub unless_refused_is : (o : Tested) (free : ℕ) (t : Table) → t ≡ table_of (day_of free (table_rows t)) →
-    unless_refused o t ≡ reading_of (refused_or o (accepted (day_of free (table_rows t))))
-unfolding reading_of
-unless_refused_is (Ok tt) free t e = ap (λ (u : Table). record { outcome = Ok tt; table = u }) e
-unless_refused_is (Err (record { number = n; place = p })) free t e = refl
 
 -- A table that is filled so far: its rows stand in front, no row in the places after them.
 pub record Filled (free : ℕ) (t : Table) : Type 0 where

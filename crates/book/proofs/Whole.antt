@@ -35,12 +35,12 @@ no_contents : {n p : ℕ} {day : Day} → refused n p ≡ accepted day → ⊥
 no_contents e = never (cc)
 
 pub or_tests : (o : Tested) (c : Contents) {day : Day} → refused_or o c ≡ accepted day → o ≡ Ok tt
-or_tests (Ok tt) c e = refl
-or_tests (Err (record { number = n; place = p })) c e = absurd (no_contents e)
+or_tests (Ok _) c e = refl
+or_tests (Err refusal) c e = absurd (no_contents e)
 
 pub or_contents : (o : Tested) (c : Contents) {day : Day} → refused_or o c ≡ accepted day → c ≡ accepted day
-or_contents (Ok tt) c e = e
-or_contents (Err (record { number = n; place = p })) c e = absurd (no_contents e)
+or_contents (Ok _) c e = e
+or_contents (Err refusal) c e = absurd (no_contents e)
 
 -- The ranges of a row, and the due of its class.
 pub record RowRanged (r : Row) : Type 0 where

@@ -21,7 +21,7 @@ day_of free rows = record { free = free; rows = rows }
 -- What a test leaves of the contents.
 abbrev pub refused_or : Tested → Contents → Contents
 refused_or (Ok tt) c = c
-refused_or (Err (record { number = n; place = p })) c = refused n p
+refused_or (Err refusal) c = refused refusal.number refusal.place
 
 -- The end word, kind 7, stands here. It may stand only after a whole row.
 unfoldable pub end_stands : (count : ℕ) → List ℕ → Bool

@@ -7,10 +7,9 @@ ghost use Rattle.schedule.specs.Rows.{no_row};
 ghost use Rattle.words.specs.WordTests.{last_start};
 ghost use Rattle.book.specs.Rows.{end_stands, end_tests, tried_rows, read_rows};
 ghost use Rattle.book.specs.Book.{head_tests, read_words};
-ghost use Rattle.book.specs.Tables.{table_of, no_day, reading_of, unless_refused};
+ghost use Rattle.book.specs.Tables.{reading_of};
 
-use refusals::Tested;
-use row_reader::RowRead;
+use refusals::Refusal;
 use schedule::{Desk, Row};
 
 // The rows that a book gives, with the free minute of the desk. Places from `count` on hold no row.
@@ -19,27 +18,6 @@ pub struct Table {
     pub free: u32,
     pub count: usize,
     pub rows: [Row; Desk::ROWS],
-}
-
-// The answer of the reader. The table of a refused book is empty.
-#[derive(Drop)]
-pub struct Reading {
-    pub outcome: Tested,
-    pub table: Table,
-}
-
-impl Table {
-    // No row in any place.
-    fn empty() -> Table
-        ensures { result ≡ table_of no_day }
-    {
-        let none = no_row();
-        Table {
-            free: 0,
-            count: 0,
-            rows: [none; Desk::ROWS],
-        }
-    }
 }
 
 // What stands in a place that holds no row.
@@ -69,45 +47,19 @@ fn end_stands(count: usize, rest: &[u32]) -> bool
 }
 
 // Count and tail at the end word.
-fn end_tests(count: usize, place: usize, rest: &[u32]) -> Tested
+fn end_tests(count: usize, place: usize, rest: &[u32]) -> Result<(), Refusal>
     requires { (place ≤ last_start) × (count ≤ most_rows) }
     ensures { result ≡ end_tests count place rest.now }
 {
     let told = words::value_of(words::word_at(rest, 0)) as usize;
-    refusals::then(
-        refusals::refuse_if(told != count, Tested::COUNT, place),
-        refusals::refuse_if(1 < rest.len(), Tested::TAIL, place + 1),
-    )
-}
-
-// The answer for a refused book.
-fn refused(outcome: Tested) -> Reading
-    ensures { result ≡ record { outcome = outcome; table = table_of no_day } }
-{
-    let none = Table::empty();
-    Reading {
-        outcome: outcome,
-        table: none,
-    }
-}
-
-// The table, unless the tests refuse it.
-fn unless_refused(outcome: Tested, table: Table) -> Reading
-    ensures { result ≡ unless_refused outcome table }
-{
-    match outcome {
-        Tested::Passed => Reading {
-            outcome: outcome,
-            table: table,
-        },
-        Tested::Refused(_, _) => refused(outcome),
-    }
+    refusals::refuse_if(told != count, Refusal::COUNT, place)?;
+    refusals::refuse_if(1 < rest.len(), Refusal::TAIL, place + 1)
 }
 
 // The rows and the end, from word 2 on. After each row the rest of the book is read on as a part of its own.
 // The order numbers stand in a column beside the rows, which the row reader is lent instead of the rows. The table is made at the end: a
 // copy less.
-fn read_rows(free: u32, pace: u32, book: &[u32]) -> Reading
+fn read_rows(free: u32, pace: u32, book: &[u32]) -> Result<Table, Refusal>
     requires { (2 ≤ length book.now) × (least_pace ≤ pace) × (pace ≤ most_pace) }
     ensures { result ≡ reading_of (read_rows tried_rows free pace [] 2 (drop 2 book.now)) }
 {
@@ -119,44 +71,30 @@ fn read_rows(free: u32, pace: u32, book: &[u32]) -> Reading
     loop {
         let rest = &book[at..];
         if end_stands(count, rest) {
-            let table = Table {
-                free: free,
-                count: count,
-                rows: rows,
-            };
-            return unless_refused(end_tests(count, at, rest), table);
+            end_tests(count, at, rest)?;
+            return Ok(Table { free, count, rows });
         }
-        match row_reader::read_row(&numbers, count, pace, at, rest) {
-            RowRead::Whole(row) => {
-                numbers[count] = row.number;
-                rows[count] = row;
-            }
-            RowRead::Refused(n, p) => {
-                return refused(Tested::Refused(n, p));
-            }
-        }
+        let row = row_reader::read_row(&numbers, count, pace, at, rest)?;
+        numbers[count] = row.number;
+        rows[count] = row;
         count += 1;
         at += 4;
     }
 }
 
 // The tests of the free minute and the pace.
-fn head_tests(book: &[u32]) -> Tested
+fn head_tests(book: &[u32]) -> Result<(), Refusal>
     ensures { result ≡ head_tests book.now }
 {
-    let free = words::word_tests(1, 0, Desk::MINUTES, 0, book, 0);
-    let pace = words::word_tests(2, Desk::LEAST_PACE, Desk::MOST_PACE, 0, book, 1);
-    refusals::then(free, pace)
+    words::word_tests(1, 0, Desk::MINUTES, 0, book, 0)?;
+    words::word_tests(2, Desk::LEAST_PACE, Desk::MOST_PACE, 0, book, 1)
 }
 
 // The table of a book that passes tests 1 to 7, or the refusal.
-pub fn read_words(book: &[u32]) -> Reading
+pub fn read_words(book: &[u32]) -> Result<Table, Refusal>
     ensures { result ≡ reading_of (read_words book.now) }
 {
-    let head = head_tests(book);
-    let Tested::Passed = head else {
-        return refused(head);
-    };
+    head_tests(book)?;
     let free = words::value_of(words::word_at(book, 0));
     let pace = words::value_of(words::word_at(book, 1));
     read_rows(free, pace, book)

@@ -115,7 +115,7 @@ module _ {clash : Row → Row → Bool} (ways : Mutual clash) (number : ℕ) (rs
       before (suc g) (suc k) l m n = h g k (omega arith) (omega arith)
 
   tried_settled : (o : Tested) → Tried o → PairsSettled clash number rs o
-  tried_settled (Ok tt) (passed h) = unclashing (none_clash h)
+  tried_settled (Ok _) (passed h) = unclashing (none_clash h)
   tried_settled (Err _) (stopped a b p q e h) =
       let same : b ≡ suc b - 1 = omega arith in
       subst (λ (k : ℕ). PairsSettled clash number rs (Err (record { number = number; place = 4 * k + 2 }))) (sym same)
@@ -130,14 +130,14 @@ module _ {clash : Row → Row → Bool} (ways : Mutual clash) (number : ℕ) (ro
   passed_none e = go (pair_tests clash number rows) (pairs_settled clash ways number rows) e
     where
       go : (o : Tested) → PairsSettled clash number rows o → o ≡ Ok tt → NoneClash clash rows
-      go (Ok tt) (unclashing h) f = h
+      go (Ok _) (unclashing h) f = h
       go (Err refusal) s f = never (cc)
 
   pub none_passes : NoneClash clash rows → pair_tests clash number rows ≡ Ok tt
   none_passes h = go (pair_tests clash number rows) (pairs_settled clash ways number rows)
     where
       go : (o : Tested) → PairsSettled clash number rows o → o ≡ Ok tt
-      go (Ok tt) s = refl
+      go (Ok _) s = refl
       go (Err _) (clashing j k e) =
           let m = from_mem k 1 (length rows) (omega (arith, e.above)) (omega (arith, e.above)) in
           let n = from_mem j 1 (length rows) (omega (arith, e.above)) (omega (arith, e.above)) in

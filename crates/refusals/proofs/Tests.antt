@@ -31,7 +31,7 @@ then_passed b e = rw e refl
 -- Tests in sequence pass if each does.
 pub then_left : (a b : Tested) → (a then b) ≡ Ok tt → a ≡ Ok tt
 unfolding ◌then◌
-then_left (Ok tt) b e = refl
+then_left (Ok _) b e = refl
 then_left (Err refusal) b e = e
 
 pub then_right : (a b : Tested) → (a then b) ≡ Ok tt → b ≡ Ok tt

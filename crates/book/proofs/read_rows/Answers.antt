@@ -1,23 +1,24 @@
 -- `read_rows` meets its contract: each turn of the loop is one step of `read_rows`, with the rest of the book as a part of its own.
 -- Assumes nothing.
-use Rattle.std.specs.Prelude.{Ok}
-use Prim.Native.Nat.{ℕ, ◌≤◌, ◌<◌, ◌+◌, ◌-◌}
+use Rattle.std.specs.Prelude.{Result, Ok}
+use Rattle.schedule.specs.declared.Row.{Row}
+use Rattle.refusals.specs.declared.Refusal.{Refusal}
+use Rattle.refusals.proofs.Tests.{handed_on}
+use Prim.Native.Nat.{ℕ, ◌≤◌, ◌+◌, ◌-◌}
 use native.Mathlib.Omega.{arith}
 use mathlib.Core.Bool.{Bool, true, false}
 use mathlib.Core.Path.{◌≡◌, ap, sym, ◌∙◌}
 use mathlib.Core.List.{List}
 use lib.ListN.{length, take, drop, length-drop}
 use lib.Seq.{drop-drop}
-use Rattle.schedule.specs.Limits.{most_rows}
 use Rattle.refusals.specs.Tests.{Tested}
 use Rattle.row_reader.specs.RowWords.{row_tests, row_of}
-use Rattle.row_reader.specs.Answers.{RowRead}
 use Rattle.row_reader.specs.Cited.{row_read_of}
 use Rattle.book.specs.Rows.{end_stands, end_tests}
-use Rattle.book.specs.Tables.{table_of, unless_refused}
+use Rattle.book.specs.Tables.{table_of}
 use Rattle.row_reader.proofs.Tests.{row_fits}
 use Rattle.book.proofs.Tables.{part_end}
-use Rattle.book.proofs.Reached.{reached_start, reached_end, reached_refused, reached_room, reached_on, whole_tests}
+use Rattle.book.proofs.Reached.{reached_start, reached_end, reached_end_refused, reached_refused, reached_room, reached_on, whole_tests}
 use Rattle.book.proofs.Reached.{whole_row, refused_tests}
 use Rattle.book.proofs.read_rows.Goals as goal
 
@@ -27,7 +28,7 @@ stop : {b : Bool} (n k : ℕ) (ws : List ℕ) → b ≡ end_stands n (take (leng
 stop n k ws e f = ap (end_stands n) (sym (part_end k ws)) ∙ sym e ∙ f
 
 -- What the row reader answers of the rest.
-row_is : {r : RowRead} (count at pace k : ℕ) (numbers ws : List ℕ) →
+row_is : {r : Result Row Refusal} (count at pace k : ℕ) (numbers ws : List ℕ) →
     (let rest = take (length ws - k) (drop k ws) in r ≡ row_read_of (row_tests (take count numbers) at rest) (row_of pace rest)) →
     r ≡ row_read_of (row_tests (take count numbers) at (drop k ws)) (row_of pace (drop k ws))
 row_is count at pace k numbers ws e =
@@ -42,68 +43,79 @@ unfolding table_of
 loop-numbers-init c =
     (c.requires.0, rw c.no_row-none.ensures (reached_start c.args.free c.args.pace (drop 2 c.args.book.now)))
 
+-- The tests of the end word, of the rest.
+ends : {o : Tested} (n at k : ℕ) (ws : List ℕ) → o ≡ end_tests n at (take (length ws - k) (drop k ws)) → o ≡ end_tests n at (drop k ws)
+ends n at k ws e = e ∙ ap (end_tests n at) (part_end k ws)
+
+-- The end word stands there.
+stands_there : {b : Bool} (n k : ℕ) (ws : List ℕ) → b ≡ end_stands n (take (length ws - k) (drop k ws)) → b ≡ true → end_stands n (drop k ws) ≡ true
+stands_there n k ws e f = ap (end_stands n) (sym (part_end k ws)) ∙ sym e ∙ f
+
+pub returns-in_err-end_tests : goal.returns-in_err-end_tests
+returns-in_err-end_tests c =
+    let l = c.loop-numbers in
+    let b = c.args.book.now in
+    handed_on c.from_residual.result c.from_residual.ensures.1 ∙
+    reached_end_refused l.invariant.1 c.in_err-end_tests.field-0.0 (stands_there l.count l.at b c.end_stands.ensures c.if-end_stands.true)
+    (sym (ends l.count l.at l.at b c.end_tests.ensures) ∙ c.in_err-end_tests.was)
+
 pub returns-then-end_stands : goal.returns-then-end_stands
 returns-then-end_stands c =
     let l = c.loop-numbers in
-    let s = c.args in
-    let b = s.book.now in
-    let e : end_stands l.count (drop l.at b) ≡ true =
-    ap (end_stands l.count) (sym (part_end l.at b)) ∙ sym c.end_stands.ensures
-    ∙ c.if-end_stands.true in
-    let o : c.end_tests.result ≡ end_tests l.count l.at (drop l.at b) =
-    c.end_tests.ensures ∙ ap (end_tests l.count l.at) (part_end l.at b) in
-    c.unless_refused.ensures ∙ ap (λ (z : Tested). unless_refused z (record { free = s.free; count = l.count; rows = l.rows })) o
-    ∙ reached_end l.invariant.1 e
+    let b = c.args.book.now in
+    reached_end l.invariant.1 (stands_there l.count l.at b c.end_stands.ensures c.if-end_stands.true)
+    (sym (ends l.count l.at l.at b c.end_tests.ensures) ∙ c.in_ok-end_tests.was)
 
 pub offset_bounds-numbers-count : goal.offset_bounds-numbers-count
 offset_bounds-numbers-count c = omega (
   arith,
-  reached_room c.loop-numbers.invariant.1 (whole_tests _ _ _ (sym c.in-Whole.is ∙
+  reached_room c.loop-numbers.invariant.1 (whole_tests _ _ _ (sym c.in_ok-row.was ∙
       row_is c.loop-numbers.count c.loop-numbers.at c.args.pace c.loop-numbers.at c.loop-numbers.numbers c.args.book.now c.read_row.ensures)),
 )
 
 pub bounds-numbers-count : goal.bounds-numbers-count
 bounds-numbers-count c =
-    reached_room c.loop-numbers.invariant.1 (whole_tests _ _ _ (sym c.in-Whole.is ∙
+    reached_room c.loop-numbers.invariant.1 (whole_tests _ _ _ (sym c.in_ok-row.was ∙
     row_is c.loop-numbers.count c.loop-numbers.at c.args.pace c.loop-numbers.at c.loop-numbers.numbers c.args.book.now c.read_row.ensures))
 
 pub offset_bounds-rows-count : goal.offset_bounds-rows-count
 offset_bounds-rows-count c = omega (
   arith,
-  reached_room c.loop-numbers.invariant.1 (whole_tests _ _ _ (sym c.in-Whole.is ∙
+  reached_room c.loop-numbers.invariant.1 (whole_tests _ _ _ (sym c.in_ok-row.was ∙
       row_is c.loop-numbers.count c.loop-numbers.at c.args.pace c.loop-numbers.at c.loop-numbers.numbers c.args.book.now c.read_row.ensures)),
 )
 
 pub bounds-rows-count : goal.bounds-rows-count
 bounds-rows-count c =
-    reached_room c.loop-numbers.invariant.1 (whole_tests _ _ _ (sym c.in-Whole.is ∙
+    reached_room c.loop-numbers.invariant.1 (whole_tests _ _ _ (sym c.in_ok-row.was ∙
     row_is c.loop-numbers.count c.loop-numbers.at c.args.pace c.loop-numbers.at c.loop-numbers.numbers c.args.book.now c.read_row.ensures))
 
-pub returns-in-Refused : goal.returns-in-Refused
-returns-in-Refused c =
-    c.refused.ensures ∙ reached_refused c.loop-numbers.invariant.1 c.in-Refused.n c.in-Refused.p
+pub returns-in_err-row : goal.returns-in_err-row
+returns-in_err-row c =
+    let r = c.from_residual-in_err-row in
+    handed_on r.result r.ensures.1 ∙ reached_refused c.loop-numbers.invariant.1 c.in_err-row.field-0.0
     (stop c.loop-numbers.count c.loop-numbers.at c.args.book.now c.end_stands.ensures c.if-end_stands.false)
-    (refused_tests _ _ _ _ (sym c.in-Refused.is ∙ row_is c.loop-numbers.count c.loop-numbers.at c.args.pace c.loop-numbers.at
+    (refused_tests _ _ _ (sym c.in_err-row.was ∙ row_is c.loop-numbers.count c.loop-numbers.at c.args.pace c.loop-numbers.at
     c.loop-numbers.numbers c.args.book.now c.read_row.ensures))
 
 pub overflow_add-count : goal.overflow_add-count
 overflow_add-count c = omega (
   arith,
-  reached_room c.loop-numbers.invariant.1 (whole_tests _ _ _ (sym c.in-Whole.is ∙
+  reached_room c.loop-numbers.invariant.1 (whole_tests _ _ _ (sym c.in_ok-row.was ∙
       row_is c.loop-numbers.count c.loop-numbers.at c.args.pace c.loop-numbers.at c.loop-numbers.numbers c.args.book.now c.read_row.ensures)),
 )
 
 pub overflow_add-at : goal.overflow_add-at
 overflow_add-at c = omega (
   arith,
-  long c.loop-numbers.at _ c.args.book.now (whole_tests _ _ _ (sym c.in-Whole.is ∙
+  long c.loop-numbers.at _ c.args.book.now (whole_tests _ _ _ (sym c.in_ok-row.was ∙
       row_is c.loop-numbers.count c.loop-numbers.at c.args.pace c.loop-numbers.at c.loop-numbers.numbers c.args.book.now c.read_row.ensures)),
 )
 
 pub loop-numbers-smaller : goal.loop-numbers-smaller
 loop-numbers-smaller c = omega (
   arith,
-  long c.loop-numbers.at _ c.args.book.now (whole_tests _ _ _ (sym c.in-Whole.is ∙
+  long c.loop-numbers.at _ c.args.book.now (whole_tests _ _ _ (sym c.in_ok-row.was ∙
       row_is c.loop-numbers.count c.loop-numbers.at c.args.pace c.loop-numbers.at c.loop-numbers.numbers c.args.book.now c.read_row.ensures)),
 )
 
@@ -111,9 +123,9 @@ pub loop-numbers-preserved : goal.loop-numbers-preserved
 loop-numbers-preserved c =
     let l = c.loop-numbers in
     let b = c.args.book.now in (
-      long c.loop-numbers.at _ c.args.book.now (whole_tests _ _ _ (sym c.in-Whole.is ∙
+      long c.loop-numbers.at _ c.args.book.now (whole_tests _ _ _ (sym c.in_ok-row.was ∙
           row_is c.loop-numbers.count c.loop-numbers.at c.args.pace c.loop-numbers.at c.loop-numbers.numbers c.args.book.now c.read_row.ensures)),
-      rw (whole_row _ _ _ (sym c.in-Whole.is ∙ row_is c.loop-numbers.count c.loop-numbers.at c.args.pace c.loop-numbers.at c.loop-numbers.numbers c.args.book.now c.read_row.ensures), ← drop-drop 4 l.at b)
-          (reached_on l.invariant.1 (stop c.loop-numbers.count c.loop-numbers.at c.args.book.now c.end_stands.ensures c.if-end_stands.false) (whole_tests _ _ _ (sym c.in-Whole.is ∙
+      rw (whole_row _ _ _ (sym c.in_ok-row.was ∙ row_is c.loop-numbers.count c.loop-numbers.at c.args.pace c.loop-numbers.at c.loop-numbers.numbers c.args.book.now c.read_row.ensures), ← drop-drop 4 l.at b)
+          (reached_on l.invariant.1 (stop c.loop-numbers.count c.loop-numbers.at c.args.book.now c.end_stands.ensures c.if-end_stands.false) (whole_tests _ _ _ (sym c.in_ok-row.was ∙
           row_is c.loop-numbers.count c.loop-numbers.at c.args.pace c.loop-numbers.at c.loop-numbers.numbers c.args.book.now c.read_row.ensures))),
     )
