@@ -1,7 +1,5 @@
 -- The idle minutes of a posting, by its end: idle and all lengths make up what lies between the free minute and the end, and the lengths of
 -- a posting are those of the rows. Assumes nothing.
-use Rattle.std.specs.Prelude.{Ok, Err}
-use Rattle.outcomes.specs.declared.Verdict.TheVariants as verdict
 use Prim.Native.Nat.{ℕ, suc, ◌+◌, ◌-◌, ◌≤◌, ◌<◌}
 use native.Mathlib.Omega.{arith}
 use mathlib.Core.Path.{◌≡◌, refl, sym, ap, ◌∙◌, subst}
@@ -16,9 +14,11 @@ use Rattle.schedule.specs.Plans.{first_beating}
 use Rattle.schedule.specs.Columns.{columns}
 use Rattle.schedule.proofs.DeskLaws.{idle_sum}
 use Rattle.schedule.proofs.Numbers.{length_count}
-use Rattle.refusals.specs.Tests.{Tested}
+use Rattle.refusals.specs.declared.Tested.{Tested}
+use Rattle.refusals.specs.declared.Tested.TheVariants as tested
 use Rattle.postings.specs.Posting.{posting_tests}
-use Rattle.outcomes.specs.Answers.{VerdictAnswer}
+use Rattle.outcomes.specs.declared.VerdictAnswer.{VerdictAnswer}
+use Rattle.outcomes.specs.declared.VerdictAnswer.TheVariants as verdict-answer
 use Rattle.outcomes.specs.Outcomes.{judged_of, verdict_outcome}
 use Rattle.outcomes.specs.Planning.{Planning, planning_in}
 use Rattle.outcomes.specs.Plannable.{Plannable}
@@ -59,9 +59,9 @@ module _ (job : ℕ → Job) (i n : ℕ) where
 
 -- A verdict whose end, if it tells one, is the minute t, so many idle minutes and so many of all lengths.
 abbrev pub Ends : (t idle lengths : ℕ) → VerdictAnswer → Type 0
-Ends t idle lengths (Err (record { number = m; place = q })) = Unit {0}
-Ends t idle lengths (Ok (verdict.Unbeaten e y)) = t + (idle + lengths) ≡ e
-Ends t idle lengths (Ok (verdict.Beaten e y k)) = t + (idle + lengths) ≡ e
+Ends t idle lengths (verdict-answer.Refused m q) = Unit {0}
+Ends t idle lengths (verdict-answer.Unbeaten e y) = t + (idle + lengths) ≡ e
+Ends t idle lengths (verdict-answer.Beaten e y k) = t + (idle + lengths) ≡ e
 
 -- So it is of a posting of rows 1 to n from the minute t on, with its own idle minutes.
 module _ {job : ℕ → Job} {t n : ℕ} (p : Plannable Ordering job t n) (posting : List ℕ) where
@@ -80,9 +80,9 @@ module _ {job : ℕ → Job} {t n : ℕ} (p : Plannable Ordering job t n) (posti
   ended = step (posting_tests (length planning.left) posting) refl
     where
       step : (r : Tested) → posting_tests (length planning.left) posting ≡ r → Ended (verdict_outcome planning posting)
-      step (Err (record { number = m; place = q })) e = subst Ended (sym (verdict_no planning posting m q e)) tt
-      step (Ok tt) e =
-          let o = posting_order p posting (subst (λ (m : ℕ). posting_tests m posting ≡ Ok tt) (length_count 1 n) e) in
+      step (tested.Refused m q) e = subst Ended (sym (verdict_no planning posting m q e)) tt
+      step tested.Passed e =
+          let o = posting_order p posting (subst (λ (m : ℕ). posting_tests m posting ≡ tested.Passed) (length_count 1 n) e) in
           let pair = pair_of job t posting in
           subst Ended (sym (verdict_is planning posting e))
           (judged pair (first_beating 1 planning.plans pair)
@@ -108,6 +108,6 @@ module _ (release minutes due : List ℕ) {t n : ℕ} (p : Plannable Ordering (c
   idle_found r s = step w s own_idle ∙ ap (result_of idle) (sym known ∙ told)
     where
       step : (w : VerdictAnswer) → Ends t r times w → Ends t idle times w → result_of r w ≡ result_of idle w
-      step (Err (record { number = m; place = q })) a b = refl
-      step (Ok (verdict.Unbeaten e y)) a b = ap (λ (i : ℕ). Unbeaten i y) (omega arith)
-      step (Ok (verdict.Beaten e y k)) a b = ap (λ (i : ℕ). Beaten i y) (omega arith)
+      step (verdict-answer.Refused m q) a b = refl
+      step (verdict-answer.Unbeaten e y) a b = ap (λ (i : ℕ). Unbeaten i y) (omega arith)
+      step (verdict-answer.Beaten e y k) a b = ap (λ (i : ℕ). Beaten i y) (omega arith)

@@ -1,6 +1,5 @@
 -- What the call gives, step by step: the refusals, and the words of the desk from the columns of the rows that the reader gave.
 -- Assumes nothing.
-use Rattle.std.specs.Prelude.{Ok, Err}
 use Prim.Native.Nat.{ℕ, suc, ◌+◌, ◌≤◌, ◌<◌}
 use native.Mathlib.Omega.{arith}
 use mathlib.Core.Path.{◌≡◌, sym, ap, ◌∙◌}
@@ -13,6 +12,7 @@ use Rattle.schedule.specs.declared.Row.{Row}
 use Rattle.schedule.specs.Rows.{no_row, row, job, Day, with_opening, jobs}
 use Rattle.schedule.specs.Columns.{at, columns}
 use Rattle.schedule.proofs.Filling.{mapped_at}
+use Rattle.refusals.specs.declared.Tested.TheVariants.{Passed}
 use Rattle.refusals.specs.Refusals.{by_narrow}
 use Rattle.book.specs.Rows.{refused, accepted}
 use Rattle.rows.specs.InColumns.{jobs_of}
@@ -24,6 +24,7 @@ use Rattle.readers.proofs.Readings.{Passes, given_passed}
 use Rattle.results.specs.Results.{written}
 use Rattle.outcomes.specs.Planning.{gives}
 use Rattle.running.specs.Words.{desk_words, releases, times, dues, pages, put}
+use Rattle.desk_open.specs.declared.OpenAnswer.TheVariants as open-answer
 use Rattle.desk_open.specs.Opens.{opened_words, open_call}
 use Rattle.desk_open.proofs.Puts.{put_written}
 use Rattle.desk_open.proofs.Opened.{time_of, pages_of_row, with_head, with_pages, with_dues, with_times, pages_room, dues_room}
@@ -31,17 +32,17 @@ use Rattle.desk_open.proofs.Opened.{times_room, releases_room}
 
 -- By what the reader gives: a refused book; a run that is too short; a desk.
 module _ (opening : ℕ) (book ws : List ℕ) where
-  pub open_no : (n p : ℕ) → read_by (ordering_rule opening) book ≡ refused n p → open_call opening book ws ≡ gives (Err (record { number = n; place = p })) ws
+  pub open_no : (n p : ℕ) → read_by (ordering_rule opening) book ≡ refused n p → open_call opening book ws ≡ gives (open-answer.Refused n p) ws
   unfolding open_call
   open_no n p e = rw (e, open_call)
 
   module _ (day : Day) (e : read_by (ordering_rule opening) book ≡ accepted day) where
-    pub open_short : length ws < desk_words → open_call opening book ws ≡ gives (Err (record { number = by_narrow; place = 0 })) ws
+    pub open_short : length ws < desk_words → open_call opening book ws ≡ gives (open-answer.Refused by_narrow 0) ws
     unfolding open_call
     open_short h = rw (e, open_call, lt-ltb (length ws) desk_words h)
 
     pub open_yes : desk_words ≤ length ws →
-        open_call opening book ws ≡ gives (Ok (record { rows = length day.rows; minute = day.free })) (written (opened_words opening day) ws)
+        open_call opening book ws ≡ gives (open-answer.Opened (length day.rows) day.free) (written (opened_words opening day) ws)
     unfolding open_call
     open_yes h = rw (e, open_call, le-ltb (length ws) desk_words h)
 
@@ -93,7 +94,7 @@ module _ (opening : ℕ) (day : Day) (few : length day.rows ≤ most_rows) (ws :
 
 -- What the reader gave of an accepted book.
 module _ (opening : ℕ) (book : List ℕ) (r : Given) (g : Gives opening (read_by (ordering_rule opening) book) r)
-    (e : r.outcome ≡ Ok tt) where
+    (e : r.outcome ≡ Passed) where
   d : Passes opening (read_by (ordering_rule opening) book) r
   d = given_passed (read_by (ordering_rule opening) book) r g e
 
@@ -103,7 +104,7 @@ module _ (opening : ℕ) (book : List ℕ) (r : Given) (g : Gives opening (read_
       let few = (accepted_day (ordering_rule opening) book d.day d.contents).few_rows in
       (omega (arith, d.count), d.columns.releases, d.columns.lengths, d.columns.dues, d.pages.0)
 
-  pub open_narrow : (ws : List ℕ) → length ws < desk_words → gives (Err (record { number = by_narrow; place = 0 })) ws ≡ open_call opening book ws
+  pub open_narrow : (ws : List ℕ) → length ws < desk_words → gives (open-answer.Refused by_narrow 0) ws ≡ open_call opening book ws
   open_narrow ws h = sym (open_short opening book ws d.day d.contents h)
 
   pub open_done : (ws : List ℕ) → desk_words ≤ length ws → (new : List ℕ) →
@@ -111,10 +112,10 @@ module _ (opening : ℕ) (book : List ℕ) (r : Given) (g : Gives opening (read_
       ((i : ℕ) → 1 ≤ i → i ≤ r.count → jobs_of r.columns i ≡ with_opening opening (job rows i)) →
       ((i : ℕ) → 1 ≤ i → i ≤ r.count → at r.columns.pages i ≡ (row rows i).pages) →
       new ≡ written (opened_words opening (record { free = r.free; rows = rows })) ws) →
-      gives (Ok (record { rows = r.count; minute = r.free })) new ≡ open_call opening book ws
+      gives (open-answer.Opened r.count r.free) new ≡ open_call opening book ws
   open_done ws wide new puts =
       let words = puts d.day.rows (sym d.count) (λ i h k. d.columns.jobs i h (omega (arith, d.count)))
       (λ i h k. d.pages.1 i) ∙
       ap (λ (t : ℕ). written (opened_words opening (record { free = t; rows = d.day.rows })) ws) d.free in
-      (λ x. gives (Ok (record { rows = d.count x; minute = d.free x })) (words x)) ∙
+      (λ x. gives (open-answer.Opened (d.count x) (d.free x)) (words x)) ∙
       sym (open_yes opening book ws d.day d.contents wide)

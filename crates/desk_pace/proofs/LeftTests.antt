@@ -1,6 +1,5 @@
 -- The test of the rows left by their new lengths, on columns: what the columns hold, and where a refusal is told.
 -- Assumes nothing.
-use Rattle.std.specs.Prelude.{Ok, Err}
 use Prim.Native.Nat.{ℕ, zero, suc, ◌+◌, ◌*◌, ◌/◌, ◌≤◌, ◌<◌}
 use native.Mathlib.Omega.{arith}
 use mathlib.Core.Path.{◌≡◌, refl, sym, ap, ◌∙◌}
@@ -13,7 +12,8 @@ use Rattle.schedule.specs.Rows.{job}
 use Rattle.schedule.specs.Columns.{at, columns}
 use Rattle.schedule.specs.Filled.{Filled, from}
 use Rattle.schedule.proofs.Filling.{counted_from_one}
-use Rattle.refusals.specs.Tests.{Tested}
+use Rattle.refusals.specs.declared.Tested.{Tested}
+use Rattle.refusals.specs.declared.Tested.TheVariants.{Passed, Refused}
 use Rattle.refusals.proofs.Tests.{never}
 use Rattle.pairs.specs.Pairs.{number_word}
 use Rattle.pairs.specs.Clashes.{PairsSettled, unclashing, clashing}
@@ -40,12 +40,12 @@ pub record TellsRow (n p : ℕ) : Type 0 where
   pub high : row ≤ n
   pub told : p ≡ number_word row
 
-pub tells_row : (d : Running) (pace : ℕ) (n p : ℕ) → rule_tests Ordering (left_by_pace d pace) ≡ Err (record { number = n; place = p }) → TellsRow (length d.left) p
+pub tells_row : (d : Running) (pace : ℕ) (n p : ℕ) → rule_tests Ordering (left_by_pace d pace) ≡ Refused n p → TellsRow (length d.left) p
 tells_row d pace n p e =
     go (rule_tests Ordering (left_by_pace d pace)) (pairs_settled (clash_by Ordering) (clash_mutual Ordering) (number_by Ordering) (left_by_pace
     d pace)) e
   where
-    go : (o : Tested) → PairsSettled (clash_by Ordering) (number_by Ordering) (left_by_pace d pace) o → o ≡ Err (record { number = n; place = p }) →
+    go : (o : Tested) → PairsSettled (clash_by Ordering) (number_by Ordering) (left_by_pace d pace) o → o ≡ Refused n p →
         TellsRow (length d.left) p
     go _ (unclashing h) f = never (cc)
     go _ (clashing j k c) f = record {
@@ -57,12 +57,12 @@ tells_row d pace n p e =
 
 -- The tests of the rows left: none is refused, or the refusal is told at the row's own number word.
 module _ (d : Running) (pace : ℕ) where
-  pub back_passed : rule_tests Ordering (left_by_pace d pace) ≡ Ok tt → placed_back d.left (rule_tests Ordering (left_by_pace d pace)) ≡ Ok tt
+  pub back_passed : rule_tests Ordering (left_by_pace d pace) ≡ Passed → placed_back d.left (rule_tests Ordering (left_by_pace d pace)) ≡ Passed
   unfolding placed_back
   back_passed e = rw e
 
-  pub back_refused : (n p : ℕ) → rule_tests Ordering (left_by_pace d pace) ≡ Err (record { number = n; place = p }) →
-      placed_back d.left (rule_tests Ordering (left_by_pace d pace)) ≡ Err (record { number = n; place = number_word (get_or (0 ∷ d.left) ((p + 2) / 4) 0) })
+  pub back_refused : (n p : ℕ) → rule_tests Ordering (left_by_pace d pace) ≡ Refused n p →
+      placed_back d.left (rule_tests Ordering (left_by_pace d pace)) ≡ Refused n (number_word (get_or (0 ∷ d.left) ((p + 2) / 4) 0))
   unfolding placed_back
   back_refused n p e = rw e
 

@@ -1,6 +1,5 @@
 -- The calls on the columns of the rows left are the calls on the desk: the same list, and the same order under the rows' own numbers.
 -- Assumes nothing.
-use Rattle.std.specs.Prelude.{Ok, Err}
 use Prim.Native.Nat.{ℕ, ◌*◌, ◌≤◌, ◌<◌}
 use native.Mathlib.Omega.{arith}
 use native.Mathlib.Decide.{dec_le}
@@ -24,7 +23,9 @@ use Rattle.schedule.proofs.Orders.{perm_all}
 use Rattle.schedule.proofs.Renumbered.{renumbered, agreeing, same_plans, pair_renumbered}
 use Rattle.refusals.specs.Refusals.{by_unlisted}
 use Rattle.results.specs.Results.{written, plan_words}
-use Rattle.outcomes.specs.Answers.{OrderAnswer}
+use Rattle.outcomes.specs.declared.ListAnswer.TheVariants as list-answer
+use Rattle.outcomes.specs.declared.OrderAnswer.{OrderAnswer}
+use Rattle.outcomes.specs.declared.OrderAnswer.TheVariants as order-answer
 use Rattle.outcomes.specs.Outcomes.{list_outcome, order_outcome, plan_outcome}
 use Rattle.outcomes.specs.Planning.{Outcome, gives, nth, Planning, planning_in}
 use Rattle.outcomes.specs.Plannable.{Plannable}
@@ -67,17 +68,17 @@ module _ (ws : List ℕ) (left : Left) (r : Ready ws left) where
       nothing [] h = refl
       nothing (i ∷ is) h = let z : ⊥ = omega arith in absurd z
 
-  pub list_none : left.count ≡ 0 → (b : List ℕ) → gives (Ok 0) b ≡ desk_list_call ws b
+  pub list_none : left.count ≡ 0 → (b : List ℕ) → gives (list-answer.Plans 0) b ≡ desk_list_call ws b
   unfolding written plan_words
   list_none e b =
       let size : length desk.left ≡ 0 = sym r.rows.counted ∙ e in
       sym (list_here ws b r.here ∙ list_is desk b (omega (arith, size)) ∙
-      ap (λ (ps : List Pair). gives (Ok (length ps)) (written (plan_words ps) b)) (no_plans (running ws) (no_row e)))
+      ap (λ (ps : List Pair). gives (list-answer.Plans (length ps)) (written (plan_words ps) b)) (no_plans (running ws) (no_row e)))
 
-  pub plan_none : left.count ≡ 0 → (k : ℕ) (b : List ℕ) → gives (Err (record { number = by_unlisted; place = 0 })) b ≡ desk_plan_call ws k b
+  pub plan_none : left.count ≡ 0 → (k : ℕ) (b : List ℕ) → gives (order-answer.Refused by_unlisted 0) b ≡ desk_plan_call ws k b
   plan_none e k b =
       sym (plan_here ws b k r.here ∙ plan_unlisted desk k b (none_numbered (running ws) (no_row e) k) ∙
-      ap (λ (ps : List Pair). gives (Err (record { number = by_unlisted; place = length ps })) b) (no_plans (running ws) (no_row e)))
+      ap (λ (ps : List Pair). gives (order-answer.Refused by_unlisted (length ps)) b) (no_plans (running ws) (no_row e)))
 
   module _ (some_row : 1 ≤ left.count) where
     abbrev n : ℕ
@@ -133,17 +134,17 @@ module _ (ws : List ℕ) (left : Left) (r : Ready ws left) where
         step : Dec (2 * n ≤ length b) → list_outcome columns b ≡ list_outcome desk b
         step (yes h) =
             list_is columns b (omega (arith, sizes)) ∙
-            ap (λ (ps : List Pair). gives (Ok (length ps)) (written (plan_words ps) b)) plans_same ∙
+            ap (λ (ps : List Pair). gives (list-answer.Plans (length ps)) (written (plan_words ps) b)) plans_same ∙
             sym (list_is desk b (omega (arith, sizes)))
         step (no h) = list_narrow columns b (omega (arith, sizes)) ∙ sym (list_narrow desk b (omega (arith, sizes)))
 
     module _ (k : ℕ) (b : List ℕ) where
       -- What the call comes to, from what planning on the columns gives: an order's places are rows still to be put in their stead.
       abbrev pub Comes : OrderAnswer → List ℕ → Type 0
-      Comes (Ok (record { end = e; late = y })) after =
+      Comes (order-answer.Pair e y) after =
           (n ≤ length after) × ((i : ℕ) → i < n → at after i ≤ most_rows) ×
-          (gives (Ok (record { end = e; late = y })) (put_to row after n) ≡ desk_plan_call ws k b)
-      Comes (Err (record { number = m; place = p })) after = gives (Err (record { number = m; place = p })) after ≡ desk_plan_call ws k b
+          (gives (order-answer.Pair e y) (put_to row after n) ≡ desk_plan_call ws k b)
+      Comes (order-answer.Refused m p) after = gives (order-answer.Refused m p) after ≡ desk_plan_call ws k b
 
       abbrev ComesOf : Outcome OrderAnswer → Type 0
       ComesOf o = Comes o.answer o.buffer
@@ -165,7 +166,7 @@ module _ (ws : List ℕ) (left : Left) (r : Ready ws left) where
                 get_or-append order (drop (length order) b) 0 i (omega arith),
                 posting_rows plannable order ((posted n order).1 o) i,
               ),
-              (λ x. gives (Ok (record { end = sym pair x; late = .end }) (sym pair x).late) (sym put x)) ∙
+              (λ x. gives (order-answer.Pair (sym pair x).end (sym pair x).late) (sym put x)) ∙
                   sym (order_some desk y b (omega (arith, sizes)) (map row order) (order_there y (some order) e)) ∙ call,
             )
 
@@ -193,7 +194,7 @@ module _ (ws : List ℕ) (left : Left) (r : Ready ws left) where
           step : (o : Option Pair) → nth columns.plans k ≡ o → ComesOf (plan_outcome columns k b)
           step none e =
               subst ComesOf (sym (plan_unlisted columns k b e))
-              (ap (λ (ps : List Pair). gives (Err (record { number = by_unlisted; place = length ps })) b) plans_same ∙
+              (ap (λ (ps : List Pair). gives (order-answer.Refused by_unlisted (length ps)) b) plans_same ∙
               sym (plan_unlisted desk k b (there none e)) ∙ sym (plan_here ws b k r.here))
           step (some q) e =
               subst ComesOf (sym (plan_is columns k q b e))

@@ -1,6 +1,5 @@
 -- The three properties of the calls by first come, first due hold, and what is promised of a later start; and they have one plan.
 -- Assumes nothing.
-use Rattle.std.specs.Prelude.{Ok}
 use Prim.Native.Nat.{ℕ, ◌*◌, ◌≤◌}
 use native.Mathlib.Omega.{arith}
 use native.Mathlib.Decide.{dec_le}
@@ -18,6 +17,7 @@ use Rattle.readers.specs.Accepted.{AcceptedDay}
 use Rattle.readers.proofs.Accepted.{accepted_day}
 use Rattle.readers.proofs.OneDay.{one_day}
 use Rattle.results.specs.Results.{written, plan_words}
+use Rattle.outcomes.specs.declared.ListAnswer.TheVariants as list-answer
 use Rattle.outcomes.specs.Outcomes.{list_outcome}
 use Rattle.outcomes.specs.Planning.{gives, Planning}
 use Rattle.outcomes.proofs.OutcomeLaws.{list_narrow, list_is}
@@ -75,7 +75,7 @@ module _ (opening : ℕ) (book : List ℕ) (day : Day) (e : read_by (first_come 
       step : Dec (2 * length (row_numbers day) ≤ length b) → list_outcome arriving b ≡ list_outcome ordering b
       step (yes h) =
           list_is arriving b h ∙
-          ap (λ (ps : List Pair). gives (Ok (length ps)) (written (plan_words ps) b)) plans_same ∙
+          ap (λ (ps : List Pair). gives (list-answer.Plans (length ps)) (written (plan_words ps) b)) plans_same ∙
           sym (list_is ordering b h)
       step (no h) = list_narrow arriving b (omega arith) ∙ sym (list_narrow ordering b (omega arith))
 

@@ -1,6 +1,5 @@
 -- The tests of a word: what they leave, refused or passed.
 -- Assumes nothing.
-use Rattle.std.specs.Prelude.{Ok, Err}
 use Prim.Native.Nat.{ℕ, ◌+◌, ◌≤◌, ◌<◌}
 use native.Mathlib.Omega.{arith}
 use mathlib.Core.Bool.{Bool, true, false, not}
@@ -10,7 +9,8 @@ use lib.Dec.{leb, eqb}
 use lib.ListN.{length, drop, length-drop}
 use lib.Seq.{get_or-drop}
 use borrow.Author.Tests.{leb-true, leb-false, eqb-true, eqb-false, not-true, not-false}
-use Rattle.refusals.specs.Tests.{Tested}
+use Rattle.refusals.specs.declared.Tested.{Tested}
+use Rattle.refusals.specs.declared.Tested.TheVariants.{Passed, Refused}
 use Rattle.refusals.specs.Refusals.{by_cut, by_kind, by_full}
 use Rattle.refusals.specs.Tests.{refuse_if, ◌then◌}
 use Rattle.words.specs.Words.{word}
@@ -23,8 +23,8 @@ use Rattle.grammar.proofs.Conditions.{is_cut, past_cut, past_kind}
 module _ (book : List ℕ) where
   -- What a test leaves: passed, P; refused, it tells what is wrong first.
   pub data Leaves (P : Type 0) : Tested → Type 0 where
-    passes : P → Leaves P (Ok tt)
-    refuses : (n p : ℕ) → FirstWrong book n p → Leaves P (Err (record { number = n; place = p }))
+    passes : P → Leaves P Passed
+    refuses : (n p : ℕ) → FirstWrong book n p → Leaves P (Refused n p)
 
   pub then_leaves : {P Q : Type 0} {a b : Tested} → Leaves P a → (P → Leaves Q b) → Leaves Q (a then b)
   unfolding ◌then◌

@@ -1,5 +1,4 @@
 -- From what is found of rows in columns to the outcome of the call. Assumes nothing.
-use Rattle.std.specs.Prelude.{Ok, Err}
 use Prim.Native.Nat.{ℕ, ◌≤◌, ◌<◌}
 use native.Mathlib.Omega.{arith}
 use native.Mathlib.Decide.{dec_le}
@@ -18,6 +17,7 @@ use Rattle.schedule.proofs.Orders.{perm_count, perm_all}
 use Rattle.schedule.proofs.Numbers.{length_count}
 use Rattle.schedule.proofs.Cover.{promised}
 use Rattle.schedule.proofs.SameJobs.{same_pair}
+use Rattle.refusals.specs.declared.Tested.TheVariants.{Passed}
 use Rattle.search.proofs.Signs.{late_lowers}
 use Rattle.arrival.specs.Given.{written_of}
 use Rattle.results.specs.Results.{written}
@@ -34,14 +34,15 @@ use Rattle.how_late.proofs.SameJobs.{order_same}
 use Rattle.latest_search.specs.declared.Latest.{Latest}
 use Rattle.latest_search.specs.declared.Latest.TheVariants.{At, Never}
 use Rattle.latest_search.specs.Found.{latest_of, order_of, LatestGiven}
-use Rattle.latest_free.specs.Answer.{LatestAnswer}
+use Rattle.latest_free.specs.declared.LatestAnswer.{LatestAnswer}
+use Rattle.latest_free.specs.declared.LatestAnswer.TheVariants as latest-answer
 use Rattle.latest_free.specs.Calls.{from_outcome, latest_outcome, latest_call}
 use Rattle.latest_free.proofs.Outcomes.{latest_narrow, latest_is, call_of}
 
 -- What is answered once the latest free minute is found.
 abbrev answer_of : Latest → LatestAnswer
-answer_of (At t e y) = Ok (record { minute = t; end = e; late = lowered y })
-answer_of Never = Err (record { number = 17; place = 0 })
+answer_of (At t e y) = latest-answer.From t e (lowered y)
+answer_of Never = latest-answer.Refused 17 0
 
 module _ {job : ℕ → Job} {n : ℕ} (p : Plannable Ordering job latest_minute n) (end late : ℤ) (b : List ℕ) where
   abbrev answer : Option OrderFrom
@@ -56,7 +57,7 @@ module _ {job : ℕ → Job} {n : ℕ} (p : Plannable Ordering job latest_minute
       let o = ((((how_late job (count_from 1 n) end late).1 p.rule some_row).order_from s).0 e).1 in
       ((promised job s.minute (count_from 1 n) p.rule some_row).best late s.order o).0
 
-  pub answer_narrow : length b < n → gives (Err (record { number = 9; place = 0 })) b ≡ latest_outcome job (count_from 1 n) end late b
+  pub answer_narrow : length b < n → gives (latest-answer.Refused 9 0) b ≡ latest_outcome job (count_from 1 n) end late b
   answer_narrow h = sym (latest_narrow job (count_from 1 n) end late b (omega (arith, length_count 1 n)))
 
   answer_found : n ≤ length b → (r : Latest) (after : List ℕ) → LatestGiven job answer b r after →
@@ -81,17 +82,17 @@ module _ {job : ℕ → Job} {n : ℕ} (p : Plannable Ordering job latest_minute
       step none e = known none e ∙ ap (λ (o : Option OrderFrom). from_outcome job o b) (sym e)
       step (some s) e =
           known (some s) e ∙
-          (ap (λ (y : ℤ). gives (Ok (record { minute = s.minute; end = end_of job s.minute s.order; late = y })) (written s.order b))
+          (ap (λ (y : ℤ). gives (latest-answer.From s.minute (end_of job s.minute s.order) y) (written s.order b))
           (lowers s e) ∙ ap (λ (o : Option OrderFrom). from_outcome job o b) (sym e))
 
   pub answer_never : n ≤ length b → (r : Latest) (after : List ℕ) → LatestGiven job answer b r after → r ≡ Never →
-      gives (Err (record { number = 17; place = 0 })) after ≡ latest_outcome job (count_from 1 n) end late b
+      gives (latest-answer.Refused 17 0) after ≡ latest_outcome job (count_from 1 n) end late b
   answer_never wide r after g e = ap (λ (x : Latest). gives (answer_of x) after) (sym e) ∙ answer_found wide r after g
 
   pub answer_from : n ≤ length b → (r : Latest) (after : List ℕ) → LatestGiven job answer b r after → (t e y : ℕ) → r ≡ At t e y → (z : ℤ) →
-      z ≡ lowered y → gives (Ok (record { minute = t; end = e; late = z })) after ≡ latest_outcome job (count_from 1 n) end late b
+      z ≡ lowered y → gives (latest-answer.From t e z) after ≡ latest_outcome job (count_from 1 n) end late b
   answer_from wide r after g t e y is z lower =
-      ap (λ (z : ℤ). gives (Ok (record { minute = t; end = e; late = z })) after) lower ∙
+      ap (λ (z : ℤ). gives (latest-answer.From t e z) after) lower ∙
       (ap (λ (x : Latest). gives (answer_of x) after) (sym is) ∙ answer_found wide r after g)
 
   -- Jobs that are the same on the rows.
@@ -100,7 +101,7 @@ module _ {job : ℕ → Job} {n : ℕ} (p : Plannable Ordering job latest_minute
     unfolding from_outcome
     from_alike none e = refl
     from_alike (some s) e =
-        ap (λ (q : Pair). gives (Ok (record { minute = s.minute; end = q.end; late = q.late })) (written s.order b))
+        ap (λ (q : Pair). gives (latest-answer.From s.minute q.end q.late) (written s.order b))
         (same_pair job job' s.minute s.order (perm_all (λ i. job i ≡ job' i) (whole s e) alike))
 
     pub same_outcome : latest_outcome job (count_from 1 n) end late b ≡ latest_outcome job' (count_from 1 n) end late b
@@ -123,7 +124,7 @@ pub record Ready (opening : ℕ) (book : List ℕ) (r : Given) : Type 0 where
   pub is_call : (end late : ℤ) (b : List ℕ) →
       latest_outcome (jobs_of r.columns) (count_from 1 r.count) end late b ≡ latest_call opening book end late b
 
-pub ready : (opening : ℕ) (book : List ℕ) (r : Given) → Gives opening (read_by (ordering_rule opening) book) r → r.outcome ≡ Ok tt →
+pub ready : (opening : ℕ) (book : List ℕ) (r : Given) → Gives opening (read_by (ordering_rule opening) book) r → r.outcome ≡ Passed →
     Ready opening book r
 ready opening book r g o =
     let d = given_passed (read_by (ordering_rule opening) book) r g o in

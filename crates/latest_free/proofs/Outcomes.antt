@@ -1,5 +1,4 @@
 -- What the outcomes of the call are, case by case. Assumes nothing.
-use Rattle.std.specs.Prelude.{Err}
 use Prim.Native.Nat.{ℕ, ◌≤◌, ◌<◌}
 use mathlib.Core.Path.{◌≡◌}
 use mathlib.Core.List.{List}
@@ -12,10 +11,11 @@ use Rattle.book.specs.Rows.{refused, accepted}
 use Rattle.readers.specs.Reads.{ordering_rule, read_by}
 use Rattle.outcomes.specs.Planning.{gives}
 use Rattle.how_late.specs.Latest.{latest_order}
+use Rattle.latest_free.specs.declared.LatestAnswer.TheVariants as latest-answer
 use Rattle.latest_free.specs.Calls.{from_outcome, latest_outcome, latest_call}
 
 module _ (job : ℕ → Job) (left : List ℕ) (end late : ℤ) (b : List ℕ) where
-  pub latest_narrow : length b < length left → latest_outcome job left end late b ≡ gives (Err (record { number = 9; place = 0 })) b
+  pub latest_narrow : length b < length left → latest_outcome job left end late b ≡ gives (latest-answer.Refused 9 0) b
   unfolding latest_outcome
   latest_narrow h = rw (lt-ltb (length b) (length left) h, latest_outcome)
 
@@ -25,7 +25,7 @@ module _ (job : ℕ → Job) (left : List ℕ) (end late : ℤ) (b : List ℕ) w
 
 module _ (opening : ℕ) (book : List ℕ) (end late : ℤ) (b : List ℕ) where
   pub call_refused : (n p : ℕ) → read_by (ordering_rule opening) book ≡ refused n p →
-      latest_call opening book end late b ≡ gives (Err (record { number = n; place = p })) b
+      latest_call opening book end late b ≡ gives (latest-answer.Refused n p) b
   unfolding latest_call
   call_refused n p e = rw (e, latest_call)
 

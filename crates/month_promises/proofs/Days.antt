@@ -1,5 +1,4 @@
 -- What a day counts as. Assumes nothing.
-use Rattle.std.specs.Prelude.{Ok, Err}
 use Prim.Native.Nat.{ℕ, suc, ◌*◌}
 use native.Mathlib.Omega.{arith}
 use mathlib.Core.Bool.{Bool, true, false, cond}
@@ -14,12 +13,13 @@ use Rattle.schedule.specs.Plans.{beats, Beats, first_beating}
 use Rattle.schedule.proofs.Beats.{beats_says}
 use Rattle.schedule.proofs.Numbers.{length_count}
 use Rattle.schedule.proofs.Tests.{is_true}
-use Rattle.refusals.specs.Tests.{Tested}
+use Rattle.refusals.specs.declared.Tested.{Tested}
+use Rattle.refusals.specs.declared.Tested.TheVariants as tested
 use Rattle.book.specs.Rows.{Contents, refused as bookRefused, accepted}
 use Rattle.readers.specs.Reads.{read_by}
 use Rattle.readers.proofs.Accepted.{accepted_day}
 use Rattle.postings.specs.Posting.{posting_tests}
-use Rattle.outcomes.specs.Answers.{VerdictAnswer}
+use Rattle.outcomes.specs.declared.VerdictAnswer.{VerdictAnswer}
 use Rattle.outcomes.specs.Outcomes.{judged_of, verdict_outcome}
 use Rattle.outcomes.specs.Planning.{Planning}
 use Rattle.outcomes.proofs.OutcomeLaws.{verdict_no, verdict_is}
@@ -52,7 +52,7 @@ named i (p ∷ ps) q k e = step (beats p q) refl e (named (suc i) ps q k)
 same_accepted : {c d : Day} → accepted c ≡ accepted d → c ≡ d
 same_accepted e = cc
 
-passed_not : {n p : ℕ} → Ok tt ≡ Err (record { number = n; place = p }) → ⊥
+passed_not : {n p : ℕ} → tested.Passed ≡ tested.Refused n p → ⊥
 passed_not e = let z : ◌≡◌ {A = ℕ} 0 1 = cc in omega arith
 
 module _ (d : PostedDay) where
@@ -82,7 +82,7 @@ module _ (d : PostedDay) where
     result = day_of_lem d.book d.posting day reads
 
     -- The posting is refused: whatever day the book gives, it is this one.
-    by_posting : (n p : ℕ) → posting_tests (length g.left) d.posting ≡ Err (record { number = n; place = p }) → CountsAs d (result_for d)
+    by_posting : (n p : ℕ) → posting_tests (length g.left) d.posting ≡ tested.Refused n p → CountsAs d (result_for d)
     unfolding result_of
     by_posting n p e =
         subst (CountsAs d) (sym (result ∙ ap (result_of idle) (verdict_no g d.posting n p e))) (refused none_there)
@@ -94,7 +94,7 @@ module _ (d : PostedDay) where
             passed_not (sym ((posted rows d.posting).1 o) ∙
             (ap (λ (m : ℕ). posting_tests m d.posting) (sym (length_count 1 rows)) ∙ e))
 
-    module _ (passes : posting_tests (length g.left) d.posting ≡ Ok tt) where
+    module _ (passes : posting_tests (length g.left) d.posting ≡ tested.Passed) where
       order : ReaderOrder g d.posting
       order = (posted rows d.posting).0 (ap (λ (m : ℕ). posting_tests m d.posting) (sym (length_count 1 rows)) ∙ passes)
 
@@ -129,8 +129,8 @@ each_day d = book (read_by month_terms d.book) refl
   where
     posting : (day : Day) → read_by month_terms d.book ≡ accepted day → (t : Tested) →
         posting_tests (length (planned month_terms day).left) d.posting ≡ t → CountsAs d (result_for d)
-    posting day e (Err (record { number = n; place = p })) f = by_posting d day e n p f
-    posting day e (Ok tt) f = by_plans d day e f (first_beating 1 (planned month_terms day).plans (own d day e)) refl
+    posting day e (tested.Refused n p) f = by_posting d day e n p f
+    posting day e tested.Passed f = by_plans d day e f (first_beating 1 (planned month_terms day).plans (own d day e)) refl
 
     book : (c : Contents) → read_by month_terms d.book ≡ c → CountsAs d (result_for d)
     book (bookRefused n p) e = by_book d n p e

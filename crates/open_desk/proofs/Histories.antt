@@ -1,6 +1,5 @@
 -- Histories: what a desk holds after calls, one after another.
 -- Assumes nothing.
-use Rattle.std.specs.Prelude.{Ok}
 use Prim.Native.Nat.{ℕ, suc, ◌+◌, ◌*◌, ◌≤◌, ◌<◌}
 use native.Mathlib.Omega.{arith}
 use mathlib.Core.Bool.{Bool, true, false}
@@ -17,6 +16,7 @@ use Rattle.schedule.specs.Cover.{Agreeing}
 use Rattle.schedule.proofs.Numbers.{length_count, count_range}
 use Rattle.schedule.proofs.Orders.{length_without, mem_without}
 use Rattle.schedule.proofs.Stands.{stands_mem}
+use Rattle.refusals.specs.declared.Tested.TheVariants as tested
 use Rattle.readers.specs.Rules.{rule_tests}
 use Rattle.readers.specs.Reads.{ordering_rule}
 use Rattle.readers.specs.Accepted.{AcceptedDay}
@@ -116,7 +116,7 @@ module _ (opening pace : ℕ) (day : Day) where
       abbrev next : Move
       next = started (record { row = i; minute = m })
 
-      module _ (passed : start_tests (running ws) i m ≡ Ok tt) where
+      module _ (passed : start_tests (running ws) i m ≡ tested.Passed) where
         abbrev new : List ℕ
         new = moved_words ws i (end_at (running ws) i m) (raised (worst_at (running ws) i m))
 
@@ -153,7 +153,7 @@ module _ (opening pace : ℕ) (day : Day) where
 
     -- One change of pace more.
     module _ (p : ℕ) (within : (least_pace ≤ p) × (p ≤ most_pace)) (passed : rule_tests Ordering (left_by_pace (running ws) p) ≡
-        Ok tt) where
+        tested.Passed) where
       over : standing opening pace day (done ++ (changed p ∷ [])) ≡ repaced old p
       over = one_change opening pace day done p
 

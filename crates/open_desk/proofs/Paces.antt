@@ -1,6 +1,5 @@
 -- A change of pace on a running desk is turned down exactly as the table says.
 -- Assumes nothing.
-use Rattle.std.specs.Prelude.{Ok, Err}
 use Prim.Native.Nat.{ℕ, zero, suc, ◌+◌, ◌-◌, ◌/◌, ◌≤◌, ◌<◌}
 use native.Mathlib.Omega.{arith}
 use native.Mathlib.Decide.{dec_lt}
@@ -15,7 +14,8 @@ use Rattle.schedule.specs.declared.Profile.TheVariants.{Ordering}
 use Rattle.schedule.specs.Rows.{row, all_rows}
 use Rattle.schedule.proofs.Numbers.{from_mem}
 use Rattle.schedule.proofs.Tests.{false_is_true, true_is}
-use Rattle.refusals.specs.Tests.{Tested}
+use Rattle.refusals.specs.declared.Tested.{Tested}
+use Rattle.refusals.specs.declared.Tested.TheVariants as tested
 use Rattle.refusals.specs.Refusals.{by_range, by_disorder}
 use Rattle.pairs.specs.Pairs.{number_word}
 use Rattle.pairs.specs.Clashes.{NoneClash, Earliest, PairsSettled, unclashing, clashing}
@@ -36,10 +36,10 @@ use Rattle.open_desk.specs.Table.{DisagreeBy, EarliestLeft, PaceTurned, range, d
 -- How the tests of a change come out: by one refusal, and the table has it and no other; or they are passed, the rows left agree, and the
 -- table has none.
 pub data Found (d : Running) (pace : ℕ) : Type 0 where
-  refuses : (n p : ℕ) → 1 ≤ n → pace_tests d pace ≡ Err (record { number = n; place = p }) → PaceTurned d pace n p →
+  refuses : (n p : ℕ) → 1 ≤ n → pace_tests d pace ≡ tested.Refused n p → PaceTurned d pace n p →
       ((k q : ℕ) → PaceTurned d pace k q → (n ≡ k) × (p ≡ q)) → Found d pace
-  passes : pace_tests d pace ≡ Ok tt → (least_pace ≤ pace) × (pace ≤ most_pace) →
-      rule_tests Ordering (left_by_pace d pace) ≡ Ok tt → ((k q : ℕ) → ¬ PaceTurned d pace k q) → Found d pace
+  passes : pace_tests d pace ≡ tested.Passed → (least_pace ≤ pace) × (pace ≤ most_pace) →
+      rule_tests Ordering (left_by_pace d pace) ≡ tested.Passed → ((k q : ℕ) → ¬ PaceTurned d pace k q) → Found d pace
 
 -- There is one earliest row left that disagrees with a row left above it.
 one_earliest : (d : Running) (pace k l : ℕ) → EarliestLeft d pace k → EarliestLeft d pace l → k ≡ l
@@ -162,7 +162,7 @@ module _ (d : Running) (pace n : ℕ) (rising : Rising n d.left) where
           let p = paced d pace within in
           refuses by_disorder (number_word (number k)) (omega arith)
           (tests_inside d pace within ∙ back_refused d pace (number_by Ordering) (number_word k) e ∙
-          ap (λ (i : ℕ). Err (record { number = by_disorder; place = number_word (number i) })) told)
+          ap (λ (i : ℕ). tested.Refused by_disorder (number_word (number i))) told)
           (disorder p.0 p.1 (number k) (earliest j k c)) only
         where
           only : (m q : ℕ) → PaceTurned d pace m q → (by_disorder ≡ m) × (number_word (number k) ≡ q)

@@ -1,6 +1,5 @@
 -- Property 3 of the calls: it holds of whatever is planned whose list is the list by its definition and whose orders for a bound are best.
 -- Assumes nothing.
-use Rattle.std.specs.Prelude.{Ok}
 use Prim.Native.Nat.{ℕ, suc, ◌*◌, ◌≤◌, ◌<◌}
 use native.Mathlib.Omega.{arith}
 use mathlib.Core.Path.{◌≡◌, refl, sym, ap, ◌∙◌, subst}
@@ -15,6 +14,7 @@ use Rattle.schedule.specs.Desk.{Pair, OrderOf}
 use Rattle.schedule.specs.Plans.{Beats, plans, first_beating}
 use Rattle.schedule.proofs.Numbers.{length_count}
 use Rattle.schedule.proofs.Signed.{le_z→, →le_z, lt_z→, →lt_z}
+use Rattle.refusals.specs.declared.Tested.TheVariants as tested
 use Rattle.postings.specs.Posting.{posting_tests}
 use Rattle.results.specs.Results.{written, complement, signed, plan_words, or_zero}
 use Rattle.outcomes.specs.Outcomes.{judged_of, list_outcome, order_outcome, plan_outcome, verdict_outcome}
@@ -220,7 +220,7 @@ module _ (g : Planning) (s : Sound g) where
 
     -- Postings: here the rows are 1 to n.
     module _ (n : ℕ) (rows : g.left ≡ count_from 1 n) (o : ReaderOrder g posting) where
-      passes : posting_tests (length g.left) posting ≡ Ok tt
+      passes : posting_tests (length g.left) posting ≡ tested.Passed
       passes = rw (rows, length_count 1 n) ((posted n posting).1 (subst (λ left. OrderOf left posting) rows o))
 
       pub verdict_front : said_verdict (verdict_outcome g posting) ≡ said_judged own (or_zero (first_beating 1 defined own))

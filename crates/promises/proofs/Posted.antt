@@ -1,6 +1,5 @@
 -- A posting is refused exactly at a wrong length, or at the first entry that is no row or came before.
 -- Assumes nothing.
-use Rattle.std.specs.Prelude.{Ok, Err}
 use Prim.Native.Nat.{ℕ, zero, suc, ◌+◌, min, ◌<◌}
 use native.Mathlib.Omega.{arith}
 use native.Mathlib.Decide.{ℕ_discrete, dec_lt}
@@ -14,7 +13,8 @@ use lib.ListN.{length, drop, get_or}
 use Rattle.schedule.specs.Rows.{stands}
 use Rattle.schedule.proofs.Tests.{or_cases, or_left, or_right, is_true}
 use Rattle.schedule.proofs.Stands.{stands_none, stands_more}
-use Rattle.refusals.specs.Tests.{Tested}
+use Rattle.refusals.specs.declared.Tested.{Tested}
+use Rattle.refusals.specs.declared.Tested.TheVariants.{Passed, Refused}
 use Rattle.refusals.specs.Refusals.{by_not_posting}
 use Rattle.postings.specs.Posting.{entry_tests, posting_tests}
 use Rattle.postings.proofs.Entries.{entry_stray, entry_fine, entries_end, posting_short, posting_long, posting_even}
@@ -72,8 +72,8 @@ module _ (n : ℕ) (posting : List ℕ) where
 
   -- How the entries from place k on come out, where none before is stray.
   abbrev Entries : Tested → Type 0
-  Entries (Ok tt) = (p : ℕ) → p < length posting → ¬ Stray n posting p
-  Entries (Err (record { number = m; place = p })) = (m ≡ by_not_posting) × (p < length posting) × Stray n posting p × ((q : ℕ) → q < p → ¬ Stray n posting q)
+  Entries Passed = (p : ℕ) → p < length posting → ¬ Stray n posting p
+  Entries (Refused m p) = (m ≡ by_not_posting) × (p < length posting) × Stray n posting p × ((q : ℕ) → q < p → ¬ Stray n posting q)
 
   abbrev Clean : ℕ → Type 0
   Clean k = (p : ℕ) → p < k → ¬ Stray n posting p
@@ -104,19 +104,19 @@ module _ (n : ℕ) (posting : List ℕ) where
   all_entries : Entries (entry_tests n [] 0 posting)
   all_entries = entries (length posting) [] 0 (omega arith) seen_none (λ p l. let z : ⊥ = omega arith in absurd z)
 
-  uneven : ¬ (length posting ≡ n) → posting_tests n posting ≡ Err (record { number = by_not_posting; place = min (length posting) n })
+  uneven : ¬ (length posting ≡ n) → posting_tests n posting ≡ Refused by_not_posting (min (length posting) n)
   uneven d = step (dec_lt (length posting) n)
     where
-      step : Dec (length posting < n) → posting_tests n posting ≡ Err (record { number = by_not_posting; place = min (length posting) n })
+      step : Dec (length posting < n) → posting_tests n posting ≡ Refused by_not_posting (min (length posting) n)
       step (yes l) = let h : length posting ≡ min (length posting) n = omega arith in
           sym (posting_short n posting l) ∙ ap (Refused by_not_posting) h
       step (no l) = let h : n ≡ min (length posting) n = omega arith in
           sym (posting_long n posting (omega arith)) ∙ ap (Refused by_not_posting) h
 
-  turned_there : (m p : ℕ) → posting_tests n posting ≡ Err (record { number = m; place = p }) → VerdictTurned n posting m p
+  turned_there : (m p : ℕ) → posting_tests n posting ≡ Refused m p → VerdictTurned n posting m p
   turned_there m p e = step (ℕ_discrete (length posting) n)
     where
-      same : {a b c d : ℕ} → Err (record { number = a; place = b }) ≡ Err (record { number = c; place = d }) → (a ≡ c) × (b ≡ d)
+      same : {a b c d : ℕ} → Refused a b ≡ Refused c d → (a ≡ c) × (b ≡ d)
       same f = (cc, cc)
 
       step : Dec (length posting ≡ n) → VerdictTurned n posting m p
@@ -124,16 +124,16 @@ module _ (n : ℕ) (posting : List ℕ) where
           let f = same (sym (uneven d) ∙ e) in
           subst (λ (x : ℕ). VerdictTurned n posting x p) f.0 (subst (VerdictTurned n posting by_not_posting) f.1 (wrong_length d))
       step (yes l) =
-          let u : Entries (Err (record { number = m; place = p })) = subst Entries (posting_even n posting l ∙ e) all_entries in
+          let u : Entries (Refused m p) = subst Entries (posting_even n posting l ∙ e) all_entries in
           subst (λ (x : ℕ). VerdictTurned n posting x p) (sym u.0) (stray l p u.1 u.2 u.3)
 
-  turned_back : (m p : ℕ) → VerdictTurned n posting m p → posting_tests n posting ≡ Err (record { number = m; place = p })
+  turned_back : (m p : ℕ) → VerdictTurned n posting m p → posting_tests n posting ≡ Refused m p
   turned_back _ _ (wrong_length d) = uneven d
   turned_back _ _ (stray l p inside x first) = sym (posting_even n posting l) ∙ step (entry_tests n [] 0 posting) all_entries
     where
-      step : (t : Tested) → Entries t → t ≡ Err (record { number = by_not_posting; place = p })
-      step (Ok tt) f = absurd (f p inside x)
-      step (Err (record { number = m; place = q })) f = λ i. Err (record { number = f.0 i; place = place i })
+      step : (t : Tested) → Entries t → t ≡ Refused by_not_posting p
+      step Passed f = absurd (f p inside x)
+      step (Refused m q) f = λ i. Refused (f.0 i) (place i)
         where
           place : q ≡ p
           place = go (dec_lt q p) (dec_lt p q)
@@ -143,5 +143,5 @@ module _ (n : ℕ) (posting : List ℕ) where
               go (no l) (yes d) = absurd (f.3 p d x)
               go (no l) (no d) = omega arith
 
-  pub posting_turned : (m p : ℕ) → (posting_tests n posting ≡ Err (record { number = m; place = p })) ↔ VerdictTurned n posting m p
+  pub posting_turned : (m p : ℕ) → (posting_tests n posting ≡ Refused m p) ↔ VerdictTurned n posting m p
   posting_turned m p = (turned_there m p, turned_back m p)

@@ -1,11 +1,11 @@
 -- Contents that are tested once more: what is accepted passed, and how the tests came out.
 -- Assumes nothing.
-use Rattle.std.specs.Prelude.{Ok, Err}
 use mathlib.Core.Path.{◌≡◌, refl, sym, ap, ◌∙◌}
 use mathlib.Core.List.{List}
 use Rattle.schedule.specs.declared.Row.{Row}
 use Rattle.schedule.specs.Rows.{Day}
-use Rattle.refusals.specs.Tests.{Tested}
+use Rattle.refusals.specs.declared.Tested.{Tested}
+use Rattle.refusals.specs.declared.Tested.TheVariants.{Passed, Refused}
 use Rattle.refusals.proofs.Tests.{never}
 use Rattle.book.specs.Rows.{Contents, refused, accepted, refused_or}
 use Rattle.book.proofs.Whole.{or_tests, or_contents}
@@ -17,8 +17,8 @@ same_day e = cc
 
 -- How a tested day comes out.
 pub or_outcome : (o : Tested) (day : Day) → outcome_of (refused_or o (accepted day)) ≡ o
-or_outcome (Ok tt) day = refl
-or_outcome (Err (record { number = n; place = p })) day = refl
+or_outcome Passed day = refl
+or_outcome (Refused n p) day = refl
 
 module _ (tests : List Row → Tested) where
   -- What is accepted after one test more was accepted before it, and passes it.
@@ -27,7 +27,7 @@ module _ (tests : List Row → Tested) where
   tested_contents (refused n p) day e = e
   tested_contents (accepted d) day e = or_contents (tests d.rows) (accepted d) e
 
-  pub tested_passed : (x : Contents) (day : Day) → tested_by tests x ≡ accepted day → tests day.rows ≡ Ok tt
+  pub tested_passed : (x : Contents) (day : Day) → tested_by tests x ≡ accepted day → tests day.rows ≡ Passed
   unfolding tested_by
   tested_passed (refused n p) day e = never (cc)
   tested_passed (accepted d) day e = ap (λ (z : Day). tests z.rows) (sym (same_day (or_contents (tests d.rows) (accepted d) e)))

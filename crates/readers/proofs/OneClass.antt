@@ -1,6 +1,5 @@
 -- A book of one class never meets disorder: each row's spare is the class's margin, so none is smaller.
 -- Assumes nothing.
-use Rattle.std.specs.Prelude.{Ok}
 use Prim.Native.Nat.{ℕ, ◌+◌}
 use native.Mathlib.Omega.{arith}
 use mathlib.Core.Bool.{Bool, true, false, ◌&&◌}
@@ -12,6 +11,7 @@ use Rattle.schedule.specs.declared.Row.{Row}
 use Rattle.schedule.specs.declared.Class.TheVariants.{Of}
 use Rattle.schedule.specs.declared.Profile.TheVariants.{Ordering}
 use Rattle.schedule.specs.Rows.{row, row_numbers}
+use Rattle.refusals.specs.declared.Tested.TheVariants.{Passed}
 use Rattle.pairs.specs.Clashes.{NoneClash}
 use Rattle.pairs.proofs.Clashes.{none_passes}
 use Rattle.row_reader.specs.Margins.{ClassDue}
@@ -50,4 +50,4 @@ one_class book c day reads same =
     let due : (i : ℕ) → Memᴰ i (row_numbers day) → ClassDue (row rows i) =
     λ i m. (by_number rows (whole_words book day reads).ranged i m).class in
     let none : NoneClash (clash_by Ordering) rows = λ i j m n. class_agrees c _ _ (due i m) (due j n) (same i m) (same j n) in
-    tested_by_lem (rule_tests Ordering) (read_words book) day reads (Ok tt) (none_passes (clash_mutual Ordering) (number_by Ordering) rows none)
+    tested_by_lem (rule_tests Ordering) (read_words book) day reads Passed (none_passes (clash_mutual Ordering) (number_by Ordering) rows none)

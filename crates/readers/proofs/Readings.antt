@@ -1,7 +1,6 @@
 -- What the reader answers: from the table of tests 1 to 7, the test of its rows, and what planning sees of them in columns. And what a
 -- caller knows of an answer.
 -- Assumes nothing.
-use Rattle.std.specs.Prelude.{Ok, Err}
 use Prim.Native.Nat.{ℕ, ◌≤◌}
 use mathlib.Core.Path.{◌≡◌, refl, sym, ap, ◌∙◌, subst}
 use mathlib.Core.List.{List}
@@ -9,7 +8,8 @@ use lib.ListN.{length}
 use Rattle.schedule.specs.declared.Row.{Row}
 use Rattle.schedule.specs.Limits.{most_opening}
 use Rattle.schedule.specs.Rows.{job, with_opening, Day, jobs}
-use Rattle.refusals.specs.Tests.{Tested}
+use Rattle.refusals.specs.declared.Tested.{Tested}
+use Rattle.refusals.specs.declared.Tested.TheVariants.{Passed, Refused}
 use Rattle.refusals.specs.Tests.{◌then◌}
 use Rattle.refusals.proofs.Tests.{never}
 use Rattle.book.specs.declared.Reading.{Reading}
@@ -73,7 +73,7 @@ gives terms book told r e c columned paged o tested out f =
     (gives_tested terms.opening (rule_tests terms.profile) r c columned paged o tested (read_words book) e)
 
 -- Contents that are refused, as one answer tells.
-pub gives_refused : {opening : ℕ} (x : Contents) (r : Given) (n p : ℕ) → x ≡ refused n p → r.outcome ≡ Err (record { number = n; place = p }) → Gives opening x r
+pub gives_refused : {opening : ℕ} (x : Contents) (r : Given) (n p : ℕ) → x ≡ refused n p → r.outcome ≡ Refused n p → Gives opening x r
 gives_refused x r n p e f = record {
   outcome = rw e f;
   free = λ day g. never (cc);
@@ -91,7 +91,7 @@ pub record Passes (opening : ℕ) (x : Contents) (r : Given) : Type 0 where
   pub columns : InColumns (jobs opening day) (length day.rows) r.columns
   pub pages : Column pages_of r.columns.pages day.rows
 
-pub given_passed : {opening : ℕ} (x : Contents) (r : Given) → Gives opening x r → r.outcome ≡ Ok tt → Passes opening x r
+pub given_passed : {opening : ℕ} (x : Contents) (r : Given) → Gives opening x r → r.outcome ≡ Passed → Passes opening x r
 given_passed (refused n p) r g e = let z = g.outcome in never (cc)
 given_passed (accepted day) r g e = record {
   day = day;
@@ -102,6 +102,6 @@ given_passed (accepted day) r g e = record {
   pages = g.pages day refl;
 }
 
-pub given_refused : {opening : ℕ} (x : Contents) (r : Given) (n p : ℕ) → Gives opening x r → r.outcome ≡ Err (record { number = n; place = p }) → x ≡ refused n p
+pub given_refused : {opening : ℕ} (x : Contents) (r : Given) (n p : ℕ) → Gives opening x r → r.outcome ≡ Refused n p → x ≡ refused n p
 given_refused (refused m q) r n p g e = let z = g.outcome in cc
 given_refused (accepted day) r n p g e = let z = g.outcome in never (cc)

@@ -1,12 +1,13 @@
 -- What a call reads: the book by what it is told beside it.
 -- Rests on: Rules, the book, the rows in columns.
-use Rattle.std.specs.Prelude.{ℕ, ◌≡◌, List, ltb, length, Ok, Err}
+use Rattle.std.specs.Prelude.{ℕ, ◌≡◌, List, ltb, length}
 use Rattle.schedule.specs.Limits.{most_opening}
 use Rattle.schedule.specs.declared.Row.{Row}
 use Rattle.schedule.specs.declared.Profile.{Profile}
 use Rattle.schedule.specs.declared.Profile.TheVariants.{Ordering, FirstCome}
 use Rattle.schedule.specs.Rows.{Day, jobs}
-use Rattle.refusals.specs.Tests.{Tested}
+use Rattle.refusals.specs.declared.Tested.{Tested}
+use Rattle.refusals.specs.declared.Tested.TheVariants.{Passed, Refused}
 use Rattle.refusals.specs.Refusals.{by_range}
 use Rattle.refusals.specs.Tests.{refuse_if}
 use Rattle.book.specs.Rows.{Contents, refused, accepted, refused_or}
@@ -48,8 +49,8 @@ read_by terms book = refused_or (opening_tests terms.opening) (read_for terms.pr
 
 -- How the tests came out.
 abbrev pub outcome_of : Contents → Tested
-outcome_of (refused n p) = Err (record { number = n; place = p })
-outcome_of (accepted day) = Ok tt
+outcome_of (refused n p) = Refused n p
+outcome_of (accepted day) = Passed
 
 -- What a reader answers of these contents: how the tests came out; and of an accepted day the free minute, the count of rows, in columns
 -- what planning sees of the rows, and their pages.

@@ -6,7 +6,7 @@ use Rattle.std.specs.Int.Signed.{lt_z}
 use Rattle.schedule.specs.declared.Row.{Row}
 use Rattle.schedule.specs.declared.Profile.{Profile}
 use Rattle.schedule.specs.declared.Profile.TheVariants.{Ordering, FirstCome}
-use Rattle.refusals.specs.Tests.{Tested}
+use Rattle.refusals.specs.declared.Tested.{Tested}
 use Rattle.refusals.specs.Refusals.{by_disorder, by_crossed}
 use Rattle.pairs.specs.Pairs.{pair_tests, open_pairs}
 

@@ -1,6 +1,5 @@
 -- The words after a start hold the desk after it.
 -- Assumes nothing.
-use Rattle.std.specs.Prelude.{Ok}
 use Prim.Native.Nat.{ℕ, zero, suc, ◌+◌, ◌-◌, ◌≤◌, max}
 use native.Mathlib.Omega.{arith}
 use native.Mathlib.Decide.{ℕ_discrete}
@@ -21,6 +20,7 @@ use Rattle.schedule.proofs.Numbers.{count_range}
 use Rattle.schedule.proofs.SameJobs.{map_same}
 use Rattle.schedule.proofs.Raised.{late_lowered, max_lowered}
 use Rattle.schedule.proofs.SignedWords.{raised_lowered}
+use Rattle.refusals.specs.declared.Tested.TheVariants.{Passed}
 use Rattle.running.specs.Running.{Running, job_in, start_tests, worse, end_at, worst_at, moved}
 use Rattle.running.specs.Words.{desk_words, count_in, worst_in, releases, times, dues, marks, pages, job_at, rows_in, pages_held}
 use Rattle.running.specs.Words.{left_to, worst_held, running, IsDesk, KeepsPages, least_raised, most_raised, moved_words}
@@ -54,7 +54,7 @@ StartFits ws i m =
     (desk_words ≤ length ws) × (i ≤ most_rows) × (m ≤ latest_start) × (1 ≤ at ws (times + i)) × (at ws (times + i) ≤ longest_time) ×
     (at ws (dues + i) ≤ latest_due) × (at ws (releases + i) ≤ m)
 
-module _ (ws : List ℕ) (desk : IsDesk ws) (i m : ℕ) (passed : start_tests (running ws) i m ≡ Ok tt) where
+module _ (ws : List ℕ) (desk : IsDesk ws) (i m : ℕ) (passed : start_tests (running ws) i m ≡ Passed) where
   abbrev d : Running
   d = running ws
 

@@ -9,7 +9,7 @@ use Rattle.schedule.specs.Limits.{latest_start}
 use Rattle.schedule.specs.declared.Row.{Row}
 use Rattle.schedule.specs.Rows.{job_of, with_opening, Day, row_numbers, stands, without}
 use Rattle.schedule.specs.Desk.{max_z}
-use Rattle.refusals.specs.Tests.{Tested}
+use Rattle.refusals.specs.declared.Tested.{Tested}
 use Rattle.refusals.specs.Refusals.{by_unlisted, by_done, by_early}
 use Rattle.refusals.specs.Tests.{refuse_if, ◌then◌}
 

@@ -1,5 +1,4 @@
 -- From what is held of the desks of several days to what is chosen of these days. Assumes nothing.
-use Rattle.std.specs.Prelude.{Ok, Err}
 use Prim.Native.Nat.{ℕ, zero, suc, ◌+◌, ◌≤◌, ◌<◌}
 use native.Mathlib.Omega.{arith}
 use native.Mathlib.Decide.{ℕ_discrete}
@@ -26,11 +25,12 @@ use Rattle.choice.specs.declared.Taken.TheVariants as taken
 use Rattle.choice.specs.Lists.{list_at, lists_in, Listed, place_at, taken_of, taken_by, best_of}
 use Rattle.choice.proofs.Taking.{first_at, firsts_to, none_within, inside, firsts_all}
 use Rattle.choice.proofs.Choosing.{Known, best}
-use Rattle.several_books.specs.Answer.{AllRead}
+use Rattle.several_books.specs.declared.AllRead.{AllRead}
 use Rattle.several_lent.specs.Lent.{books_of}
 use Rattle.several_books.specs.Days.{rows_of, no_day}
 use Rattle.several_books.specs.Held.{Slot, slot_at, Holds, ReadAll}
 use Rattle.several_books.proofs.Desks.{rows_more, books_length, DaysOf}
+use Rattle.several.specs.declared.SeveralAnswer.TheVariants as several-answer
 use Rattle.several_orders.specs.Orders.{rows_to, order_at, orders_to, CanOrder}
 use Rattle.several.specs.Ready.{DaysReady}
 use Rattle.several.specs.Calls.{desks_of, days_outcome}
@@ -120,7 +120,7 @@ module _ (opening : ℕ) (ds : List Day) (free rows plans : List ℕ) (columns f
     abbrev lists : List (List Pair)
     lists = lists_in plans fronts (length closings)
 
-    pub answer_narrow : length b < total → gives (Err (record { refusal = record { number = 9; place = 0 }; desk = 0 })) b ≡ days_outcome opening closings limit b ds
+    pub answer_narrow : length b < total → gives (several-answer.Refused 9 0 0) b ≡ days_outcome opening closings limit b ds
     answer_narrow h = sym (days_narrow opening closings limit b ds (omega (arith, r.summed)))
 
     chosen_is : (o : Option LeastPlans) → best_plans limit closings lists ≡ o → best_choice limit closings desks ≡ chosen_from closings desks o
@@ -133,7 +133,7 @@ module _ (opening : ℕ) (ds : List Day) (free rows plans : List ℕ) (columns f
     none_taken (some w) e = never (cc)
 
     pub answer_none : total ≤ length b → (t : Taken) → t ≡ best_of limit closings lists → t ≡ taken.None →
-        gives (Err (record { refusal = record { number = 16; place = 0 }; desk = 0 })) b ≡ days_outcome opening closings limit b ds
+        gives (several-answer.Refused 16 0 0) b ≡ days_outcome opening closings limit b ds
     answer_none wide t e n =
         let none_is = none_taken (best_plans limit closings lists) (sym e ∙ n) in
         sym (days_none opening closings limit b ds (omega (arith, r.summed)) (chosen_is none none_is))
@@ -206,10 +206,10 @@ module _ (opening : ℕ) (ds : List Day) (free rows plans : List ℕ) (columns f
 
       pub answer_chosen : total ≤ length b → (y : ℤ) → y ≡ lowered late → (after : List ℕ) →
           after ≡ written (flatten (orders_to free rows plans columns fronts late (length closings))) b →
-          gives (Ok (record { late = y; overtime = sum })) after ≡ days_outcome opening closings limit b ds
+          gives (several-answer.Chosen y sum) after ≡ days_outcome opening closings limit b ds
       answer_chosen wide y z after e =
           let l : y ≡ k.within.late = z ∙ ap lowered k.lateness ∙ w.late in
           let o : after ≡ written (flatten (plan_orders desks k.within.plans)) b = e ∙
           ap (λ (os : List (List ℕ)). written (flatten os) b) orders_same in
-          (λ i. gives (Ok (record { late = l i; overtime = k.overtime i })) (o i)) ∙
+          (λ i. gives (several-answer.Chosen (l i) (k.overtime i)) (o i)) ∙
           sym (days_some opening closings limit b ds (omega (arith, r.summed)) _ (chosen_is (some k.within) k.is))

@@ -1,5 +1,4 @@
 -- What the outcomes of the call are, case by case. Assumes nothing.
-use Rattle.std.specs.Prelude.{Ok, Err}
 use Prim.Native.Nat.{ℕ, ◌≤◌, ◌<◌}
 use mathlib.Core.Bool.{true, false}
 use mathlib.Core.Path.{◌≡◌}
@@ -14,34 +13,35 @@ use Rattle.outcomes.specs.Planning.{gives}
 use Rattle.overtime.specs.Choices.{Chosen, best_choice}
 use Rattle.several_lent.specs.Lent.{books_of, lent_amiss}
 use Rattle.several_books.specs.Days.{refused_at, days, read_desks, rows_of}
+use Rattle.several.specs.declared.SeveralAnswer.TheVariants as several-answer
 use Rattle.several.specs.Calls.{desks_of, choice_outcome, days_outcome, books_outcome, several_call}
 
 module _ (opening : ℕ) (closings : List ℕ) (limit : ℕ) (b : List ℕ) (ds : List Day) where
-  pub days_narrow : length b < rows_of ds → days_outcome opening closings limit b ds ≡ gives (Err (record { refusal = record { number = 9; place = 0 }; desk = 0 })) b
+  pub days_narrow : length b < rows_of ds → days_outcome opening closings limit b ds ≡ gives (several-answer.Refused 9 0 0) b
   unfolding days_outcome
   days_narrow h = rw (lt-ltb (length b) (rows_of ds) h, days_outcome)
 
   module _ (h : rows_of ds ≤ length b) where
     pub days_none : best_choice limit closings (desks_of opening ds) ≡ none →
-        days_outcome opening closings limit b ds ≡ gives (Err (record { refusal = record { number = 16; place = 0 }; desk = 0 })) b
+        days_outcome opening closings limit b ds ≡ gives (several-answer.Refused 16 0 0) b
     unfolding days_outcome choice_outcome
     days_none e = rw (le-ltb (length b) (rows_of ds) h, e, days_outcome)
 
     pub days_some : (a : Chosen) → best_choice limit closings (desks_of opening ds) ≡ some a →
         days_outcome opening closings limit b ds ≡
-        gives (Ok (record { late = a.late; overtime = a.overtime })) (written (flatten a.orders) b)
+        gives (several-answer.Chosen a.late a.overtime) (written (flatten a.orders) b)
     unfolding days_outcome choice_outcome
     days_some a e = rw (le-ltb (length b) (rows_of ds) h, e, days_outcome)
 
 module _ (opening : ℕ) (books lengths closings : List ℕ) (limit : ℕ) (b : List ℕ) where
   pub call_amiss : lent_amiss opening (length books) lengths closings limit ≡ true →
-      several_call opening books lengths closings limit b ≡ gives (Err (record { refusal = record { number = 3; place = 0 }; desk = 0 })) b
+      several_call opening books lengths closings limit b ≡ gives (several-answer.Refused 3 0 0) b
   unfolding several_call
   call_amiss e = rw (e, several_call)
 
   module _ (right : lent_amiss opening (length books) lengths closings limit ≡ false) where
     pub call_refused : (n p d : ℕ) → read_desks (ordering_rule opening) 1 (books_of lengths books) ≡ refused_at n p d →
-        several_call opening books lengths closings limit b ≡ gives (Err (record { refusal = record { number = n; place = p }; desk = d })) b
+        several_call opening books lengths closings limit b ≡ gives (several-answer.Refused n p d) b
     unfolding several_call books_outcome
     call_refused n p d e = rw (right, e, several_call)
 

@@ -1,9 +1,10 @@
 -- The answer for several desks in the terms of the table of refusals: what the other calls say, and with it the desk that a refusal
 -- concerns, from 1, 0 where it concerns none, and the sum of the overtimes. A field that a case does not speak of is 0.
 -- Rests on: the declared answer, the calls' Answers.
-use Rattle.std.specs.Prelude.{ℕ, ℤ, Ok, Err}
+use Rattle.std.specs.Prelude.{ℕ, ℤ}
 use Rattle.calls.specs.Answers.{Said, said_no}
-use Rattle.several.specs.Answer.{SeveralAnswer}
+use Rattle.several.specs.declared.SeveralAnswer.{SeveralAnswer}
+use Rattle.several.specs.declared.SeveralAnswer.TheVariants as several-answer
 
 pub record SaidOfDesks : Type 0 where
   pub said : Said
@@ -18,5 +19,5 @@ abbrev pub said_no_at : (number place desk : ℕ) → SaidOfDesks
 said_no_at n p d = record { said = said_no n p; desk = d; overtime = 0 }
 
 abbrev pub said_several : SeveralAnswer → SaidOfDesks
-said_several (Ok (record { late = y; overtime = o })) = said_chosen y o
-said_several (Err (record { refusal = record { number = n; place = p }; desk = d })) = said_no_at n p d
+said_several (several-answer.Chosen y o) = said_chosen y o
+said_several (several-answer.Refused n p d) = said_no_at n p d

@@ -1,6 +1,6 @@
 -- The whole outcome of the call for several desks: from what it is told and lent to its answer and the buffer's contents at exit.
 -- What is lent amiss comes first, then the books desk by desk, then 9, then 16. Rests on: the books of several desks, what is chosen.
-use Rattle.std.specs.Prelude.{ℕ, true, false, ltb, length, Ok, Err}
+use Rattle.std.specs.Prelude.{ℕ, true, false, ltb, length}
 use mathlib.Core.List.{List, map, flatten}
 use Rattle.std.proofs.Math.Option.{Option, none, some}
 use Rattle.schedule.specs.Rows.{Day}
@@ -12,7 +12,8 @@ use Rattle.calls.specs.Planned.{planned}
 use Rattle.overtime.specs.Choices.{Chosen, best_choice, open_choices}
 use Rattle.several_lent.specs.Lent.{books_of, lent_amiss, open_lent}
 use Rattle.several_books.specs.Days.{DesksRead, refused_at, days, read_desks, rows_of, open_days}
-use Rattle.several.specs.Answer.{SeveralAnswer}
+use Rattle.several.specs.declared.SeveralAnswer.{SeveralAnswer}
+use Rattle.several.specs.declared.SeveralAnswer.TheVariants as several-answer
 
 -- What is planned of the days of several desks; one opening serves all.
 abbrev pub desks_of : (opening : ℕ) → List Day → List Planning
@@ -20,24 +21,24 @@ desks_of opening ds = map (planned (ordering_rule opening)) ds
 
 -- The choice, with the orders desk after desk.
 unfoldable pub choice_outcome : Option Chosen → (buffer : List ℕ) → Outcome SeveralAnswer
-choice_outcome none b = gives (Err (record { refusal = record { number = by_overtime; place = 0 }; desk = 0 })) b
-choice_outcome (some a) b = gives (Ok (record { late = a.late; overtime = a.overtime })) (written (flatten a.orders) b)
+choice_outcome none b = gives (several-answer.Refused by_overtime 0 0) b
+choice_outcome (some a) b = gives (several-answer.Chosen a.late a.overtime) (written (flatten a.orders) b)
 
 module _ (opening : ℕ) (closings : List ℕ) (limit : ℕ) (b : List ℕ) where
   -- Of books that are all accepted: one word for each row of all of them, then the choice.
   unfoldable pub days_outcome : List Day → Outcome SeveralAnswer
   days_outcome ds = elim (ltb (length b) (rows_of ds)) [
-    | true ↦ gives (Err (record { refusal = record { number = by_narrow; place = 0 }; desk = 0 })) b
+    | true ↦ gives (several-answer.Refused by_narrow 0 0) b
     | false ↦ choice_outcome (best_choice limit closings (desks_of opening ds)) b
   ]
 
   unfoldable pub books_outcome : DesksRead → Outcome SeveralAnswer
-  books_outcome (refused_at n p d) = gives (Err (record { refusal = record { number = n; place = p }; desk = d })) b
+  books_outcome (refused_at n p d) = gives (several-answer.Refused n p d) b
   books_outcome (days ds) = days_outcome ds
 
 unfoldable pub several_call : (opening : ℕ) (books lengths closings : List ℕ) (limit : ℕ) (buffer : List ℕ) → Outcome SeveralAnswer
 several_call opening books lengths closings limit b = elim (lent_amiss opening (length books) lengths closings limit) [
-  | true ↦ gives (Err (record { refusal = record { number = by_range; place = 0 }; desk = 0 })) b
+  | true ↦ gives (several-answer.Refused by_range 0 0) b
   | false ↦ books_outcome opening closings limit b (read_desks (ordering_rule opening) 1 (books_of lengths books))
 ]
 

@@ -1,5 +1,4 @@
 -- Books that are read desk by desk: what is known before each, and at the end. Assumes nothing.
-use Rattle.std.specs.Prelude.{Ok, Err}
 use Prim.Native.Nat.{ℕ, suc, ◌+◌, ◌-◌, ◌*◌, ◌≤◌, ◌<◌}
 use native.Mathlib.Omega.{arith}
 use native.Mathlib.Decide.{ℕ_discrete}
@@ -11,23 +10,25 @@ use lib.Seq.{drop-cons, drop-length, drop-drop, get_or-append_seam}
 use Rattle.schedule.specs.Limits.{most_rows}
 use Rattle.schedule.specs.Rows.{Day}
 use Rattle.schedule.specs.Columns.{at}
-use Rattle.refusals.specs.Tests.{Tested}
+use Rattle.refusals.specs.declared.Tested.TheVariants.{Passed, Refused}
+use Rattle.refusals.specs.declared.Tested.{Tested}
 use Rattle.refusals.proofs.Tests.{never}
 use Rattle.book.specs.Rows.{Contents, refused, accepted}
 use Rattle.readers.specs.declared.Terms.{Terms}
 use Rattle.readers.specs.Reads.{read_by, outcome_of}
-use Rattle.several_books.specs.Answer.{AllRead}
+use Rattle.several_books.specs.declared.AllRead.TheVariants as all_read
+use Rattle.several_books.specs.declared.AllRead.{AllRead}
 use Rattle.several_lent.specs.Lent.{books_of, total}
 use Rattle.several_books.specs.Days.{DesksRead, refused_at, days, day_in_front, with_rest, read_desks, rows_of, no_day}
 use Rattle.several_books.specs.Held.{Slot, slot_at, Holds, RoomForDesks, ReadInto, DaysHeld, all_read_of, ReadAll}
 use Rattle.several_lent.proofs.Sums.{total_next}
 
 -- What a test says of the contents.
-refused_by_lem : (x : Contents) (n p : ℕ) → Err (record { number = n; place = p }) ≡ outcome_of x → x ≡ refused n p
+refused_by_lem : (x : Contents) (n p : ℕ) → Refused n p ≡ outcome_of x → x ≡ refused n p
 refused_by_lem (refused m q) n p e = cc
 refused_by_lem (accepted day) n p e = never (cc)
 
-accepted_by_lem : (x : Contents) → Ok tt ≡ outcome_of x → (day : Day) × (x ≡ accepted day)
+accepted_by_lem : (x : Contents) → Passed ≡ outcome_of x → (day : Day) × (x ≡ accepted day)
 accepted_by_lem (refused m q) e = never (cc)
 accepted_by_lem (accepted day) e = (day, refl)
 
@@ -123,8 +124,8 @@ module _ (terms : Terms) (books lengths : List ℕ) where
     module _ (h : d < length lengths) (free' rows' plans' : List ℕ) (columns' fronts' : List (List ℕ)) (r : Tested)
         (book : List ℕ) (is-part : book ≡ part_at from d)
         (into : ReadInto terms book d free rows plans columns fronts free' rows' plans' columns' fronts' r) where
-      pub read_refused : (n p : ℕ) → r ≡ Err (record { number = n; place = p }) →
-          ReadAll terms parts free' rows' plans' columns' fronts' (Err (record { refusal = record { number = n; place = p }; desk = d + 1 }))
+      pub read_refused : (n p : ℕ) → r ≡ Refused n p →
+          ReadAll terms parts free' rows' plans' columns' fronts' (all_read.Refused n p (d + 1))
       unfolding all_read_of
       read_refused n p e =
           let x : read_by terms (part_at from d) ≡ refused n p = ap (read_by terms) (sym is-part) ∙
@@ -139,7 +140,7 @@ module _ (terms : Terms) (books lengths : List ℕ) where
           never_days e = never (cc)
 
       -- One book more is accepted.
-      pub read_next : r ≡ Ok tt →
+      pub read_next : r ≡ Passed →
           ReadTo free' rows' plans' columns' fronts' (sum + at rows' d) (from + at lengths d) (d + 1)
       read_next e =
           let x = accepted_by_lem (read_by terms book) (sym e ∙ into.outcome) in
@@ -178,7 +179,7 @@ module _ (terms : Terms) (books lengths : List ℕ) where
               (t.held i (omega arith)))
 
     -- All are read.
-    pub read_end : d ≡ length lengths → ReadAll terms parts free rows plans columns fronts (Ok sum)
+    pub read_end : d ≡ length lengths → ReadAll terms parts free rows plans columns fronts (all_read.Rows sum)
     unfolding all_read_of read_desks books_of
     read_end e =
         let none : drop d lengths ≡ [] = ap (λ (n : ℕ). drop n lengths) e ∙ drop-length lengths in
@@ -186,7 +187,7 @@ module _ (terms : Terms) (books lengths : List ℕ) where
         let all : read_desks terms 1 parts ≡ days t.before =
         t.rest ∙ ap (behind t.before) y ∙ behind_days t.before [] ∙ ap days (append-nil t.before) in
         record {
-          outcome = ap Ok t.summed ∙ ap all_read_of (sym all);
+          outcome = ap all_read.Rows t.summed ∙ ap all_read_of (sym all);
           held = λ ds f.
               let same : t.before ≡ ds = days_one (sym all ∙ f) in
               subst
@@ -198,12 +199,12 @@ module _ (terms : Terms) (books lengths : List ℕ) where
 -- What all books that were read say: the refusal with its desk, or the days, and their desks.
 module _ (terms : Terms) (books : List (List ℕ)) (free rows plans : List ℕ) (columns fronts : List (List ℕ)) (r : AllRead)
     (all : ReadAll terms books free rows plans columns fronts r) where
-  refusal_of : (x : DesksRead) (n p d : ℕ) → Err (record { refusal = record { number = n; place = p }; desk = d }) ≡ all_read_of x → x ≡ refused_at n p d
+  refusal_of : (x : DesksRead) (n p d : ℕ) → all_read.Refused n p d ≡ all_read_of x → x ≡ refused_at n p d
   unfolding all_read_of
   refusal_of (refused_at m q e) n p d h = cc
   refusal_of (days ds) n p d h = never (cc)
 
-  pub refusal_read : (n p d : ℕ) → r ≡ Err (record { refusal = record { number = n; place = p }; desk = d }) → read_desks terms 1 books ≡ refused_at n p d
+  pub refusal_read : (n p d : ℕ) → r ≡ all_read.Refused n p d → read_desks terms 1 books ≡ refused_at n p d
   refusal_read n p d e = refusal_of (read_desks terms 1 books) n p d (sym e ∙ all.outcome)
 
   pub record DaysOf (sum : ℕ) : Type 0 where
@@ -213,12 +214,12 @@ module _ (terms : Terms) (books : List (List ℕ)) (free rows plans : List ℕ) 
     pub many : length all_days ≡ length books
     pub held : DaysHeld terms.opening all_days free rows plans columns fronts
 
-  days_of : (x : DesksRead) → read_desks terms 1 books ≡ x → (n : ℕ) → Ok n ≡ all_read_of x → DaysOf n
+  days_of : (x : DesksRead) → read_desks terms 1 books ≡ x → (n : ℕ) → all_read.Rows n ≡ all_read_of x → DaysOf n
   unfolding all_read_of
   days_of (refused_at m q e) f n h = never (cc)
   days_of (days ds) f n h =
       let k = all.held ds f in
       record { all_days = ds; read = f; summed = cc; many = k.0; held = k.1 }
 
-  pub days_read : (n : ℕ) → r ≡ Ok n → DaysOf n
+  pub days_read : (n : ℕ) → r ≡ all_read.Rows n → DaysOf n
   days_read n e = days_of (read_desks terms 1 books) refl n (sym e ∙ all.outcome)

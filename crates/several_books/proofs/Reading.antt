@@ -1,6 +1,5 @@
 -- From what a book gives, and the list of its rows, to what is held of its desk.
 -- Assumes nothing.
-use Rattle.std.specs.Prelude.{Ok, Err}
 use Prim.Native.Nat.{ℕ, zero, suc, ◌≤◌, ◌<◌}
 use native.Mathlib.Omega.{arith}
 use mathlib.Core.Path.{◌≡◌, refl, sym, ap, ◌∙◌, subst}
@@ -21,6 +20,7 @@ use Rattle.schedule.proofs.Signed.{le_z→}
 use Rattle.schedule.proofs.SameJobs.{same_list, same_order}
 use Rattle.schedule.proofs.Filling.{mapped_at}
 use Rattle.search.proofs.Signs.{followed_raised, through_late}
+use Rattle.refusals.specs.declared.Tested.TheVariants.{Passed, Refused}
 use Rattle.refusals.proofs.Tests.{never}
 use Rattle.book.specs.Rows.{refused, accepted}
 use Rattle.rows.specs.InColumns.{jobs_of, InColumns}
@@ -126,8 +126,8 @@ module _ (opening : ℕ) (book : List ℕ) (r : Given) (day : Day) (reads : read
 module _ (opening : ℕ) (book : List ℕ) (r : Given) (gives : Gives opening (read_by (ordering_rule opening) book) r) (free rows plans :
     List ℕ)
     (columns fronts : List (List ℕ)) (sized : RoomForDesks free rows plans columns fronts) (d : ℕ) where
-  pub into_refused : (n p : ℕ) → r.outcome ≡ Err (record { number = n; place = p }) →
-      ReadInto (ordering_rule opening) book d free rows plans columns fronts free rows plans columns fronts (Err (record { number = n; place = p }))
+  pub into_refused : (n p : ℕ) → r.outcome ≡ Refused n p →
+      ReadInto (ordering_rule opening) book d free rows plans columns fronts free rows plans columns fronts (Refused n p)
   into_refused n p e =
       let x = given_refused (read_by (ordering_rule opening) book) r n p gives e in
       record {
@@ -140,11 +140,11 @@ module _ (opening : ℕ) (book : List ℕ) (r : Given) (gives : Gives opening (r
       never_both : {A : Type 0} {day : Day} → refused n p ≡ accepted day → A
       never_both e = never (cc)
 
-  pub into_accepted : d < most_desks → r.outcome ≡ Ok tt → (f : Front) →
+  pub into_accepted : d < most_desks → r.outcome ≡ Passed → (f : Front) →
       HoldsPlans (planning_in Ordering (jobs_of r.columns) r.free r.count).plans r.count f →
       ReadInto (ordering_rule opening) book d free rows plans columns fronts (set free d r.free) (set rows d r.count)
       (set plans d f.count)
-      (columns_put columns fronts d (slot_of r f)) (fronts_put columns fronts d (slot_of r f)) (Ok tt)
+      (columns_put columns fronts d (slot_of r f)) (fronts_put columns fronts d (slot_of r f)) Passed
   into_accepted h e f p =
       let x = given_passed (read_by (ordering_rule opening) book) r gives e in
       record {

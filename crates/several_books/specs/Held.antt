@@ -1,12 +1,12 @@
 -- What is held of several desks once their books are read: rows in columns, and lists. Only contracts cite it.
 -- Rests on: Days, the lists in columns (choice), what is planned (outcomes).
-use Rattle.std.specs.Prelude.{ℕ, ◌+◌, ◌*◌, ◌<◌, ◌≡◌, List, [], length, get_or, take, ℤ, Ok, Err}
+use Rattle.std.specs.Prelude.{ℕ, ◌+◌, ◌*◌, ◌<◌, ◌≡◌, List, [], length, get_or, take, ℤ}
 use Rattle.theory.specs.Jobs.{Job}
 use Rattle.schedule.specs.Limits.{most_desks}
 use Rattle.schedule.specs.declared.Profile.TheVariants.{Ordering}
 use Rattle.schedule.specs.Rows.{Day}
 use Rattle.schedule.specs.Columns.{at, columns}
-use Rattle.refusals.specs.Tests.{Tested}
+use Rattle.refusals.specs.declared.Tested.{Tested}
 use Rattle.book.specs.Rows.{accepted}
 use Rattle.readers.specs.declared.Terms.{Terms}
 use Rattle.readers.specs.Reads.{read_by, outcome_of}
@@ -14,7 +14,8 @@ use Rattle.listing.specs.Fronts.{pairs_of}
 use Rattle.outcomes.specs.Planning.{Planning, planning_in, planning_of}
 use Rattle.outcomes.specs.Plannable.{Plannable}
 use Rattle.choice.specs.Lists.{ends_at, lates_at, ListedAt}
-use Rattle.several_books.specs.Answer.{AllRead}
+use Rattle.several_books.specs.declared.AllRead.{AllRead}
+use Rattle.several_books.specs.declared.AllRead.TheVariants as all_read
 use Rattle.several_books.specs.Days.{DesksRead, refused_at, days, read_desks, rows_of, no_day}
 
 -- What is held of one desk: its free minute, how many rows and plans it has, its rows in columns, and its list.
@@ -79,8 +80,8 @@ pub record ReadInto (terms : Terms) (book : List ℕ) (d : ℕ)
 
 -- All books are read: the first refusal with its desk, or the rows of all days, and each day's desk in its place.
 unfoldable pub all_read_of : DesksRead → AllRead
-all_read_of (refused_at n p d) = Err (record { refusal = record { number = n; place = p }; desk = d })
-all_read_of (days ds) = Ok (rows_of ds)
+all_read_of (refused_at n p d) = all_read.Refused n p d
+all_read_of (days ds) = all_read.Rows (rows_of ds)
 
 -- Each of these days has its desk.
 abbrev pub DaysHeld : (opening : ℕ) → List Day → (free rows plans : List ℕ) (columns fronts : List (List ℕ)) → Type 0

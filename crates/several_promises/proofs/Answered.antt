@@ -31,7 +31,7 @@ use Rattle.overtime.proofs.Best.{several_desks}
 use Rattle.several_books.specs.Days.{rows_of, no_day}
 use Rattle.several_lent.proofs.Sums.{lent_right}
 use Rattle.several.specs.Answers.{said_several, said_chosen}
-use Rattle.several.specs.Answer.{SeveralAnswer}
+use Rattle.several.specs.declared.SeveralAnswer.{SeveralAnswer}
 use Rattle.several.specs.Calls.{desks_of, days_outcome, several_call}
 use Rattle.several.proofs.Outcomes.{days_none, days_some, call_days}
 use Rattle.several_promises.specs.Table.{several, book_at, TakesAll, Right}

@@ -24,7 +24,7 @@ use Rattle.overtime.proofs.Best.{measured}
 use Rattle.several_lent.specs.Lent.{books_of, lent_amiss}
 use Rattle.several_books.specs.Days.{DesksRead, refused_at, days, read_desks, rows_of}
 use Rattle.several_lent.proofs.Sums.{lent_right}
-use Rattle.several.specs.Answer.{SeveralAnswer}
+use Rattle.several.specs.declared.SeveralAnswer.{SeveralAnswer}
 use Rattle.several.specs.Answers.{said_several, said_chosen}
 use Rattle.several.specs.Calls.{desks_of, days_outcome, several_call}
 use Rattle.several.proofs.Outcomes.{days_narrow, days_none, days_some, call_amiss, call_refused}

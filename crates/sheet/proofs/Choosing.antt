@@ -1,6 +1,5 @@
 -- The choice of the lines: what the odd bytes and the answer of the list make of them.
 -- Assumes nothing.
-use Rattle.std.specs.Prelude.{Ok, Err}
 use Prim.Native.Nat.{ℕ, ◌*◌, ◌/◌, ◌≤◌}
 use mathlib.Core.Bool.{true, false}
 use mathlib.Core.Path.{◌≡◌, refl, ap, sym, ◌∙◌, subst}
@@ -20,7 +19,8 @@ use Rattle.book.specs.Tables.{table_of, table_rows, reading_of}
 use Rattle.book.proofs.Tables.{table_rows_lem}
 use Rattle.readers.specs.Reads.{read_by}
 use Rattle.readers.proofs.Accepted.{read_words_gave, accepted_day}
-use Rattle.outcomes.specs.Answers.{ListAnswer}
+use Rattle.outcomes.specs.declared.ListAnswer.{ListAnswer}
+use Rattle.outcomes.specs.declared.ListAnswer.TheVariants as list-answer
 use Rattle.outcomes.specs.Planning.{Outcome, gives, planning_of}
 use Rattle.outcomes.proofs.OutcomeLaws.{list_is}
 use Rattle.calls.specs.Answers.{said_list}
@@ -53,28 +53,28 @@ module _ (book b after : List ℕ) (room : length b ≡ 512) where
   wide day r = omega (arith, (accepted_day slate_terms book day r).few_rows, length_count 1 (length day.rows))
 
   turned : (x : Contents) → read_by slate_terms book ≡ x → (n p : ℕ) →
-      gives (Err (record { number = n; place = p })) after ≡ list_call slate_terms book b → printed slate_terms book ≡ refusal n p
+      gives (list-answer.Refused n p) after ≡ list_call slate_terms book b → printed slate_terms book ≡ refusal n p
   unfolding printed
   turned (refused m q) r n p g =
-      let a : Err (record { number = n; place = p }) ≡ Err (record { number = m; place = q }) =
+      let a : list-answer.Refused n p ≡ list-answer.Refused m q =
       ap (λ (y : Outcome ListAnswer). y.answer) (g ∙ list_refused slate_terms book m q r b) in
       let i : n ≡ m = cc in
       let j : p ≡ q = cc in
       rw (printed, r, i, j) refl
   turned (accepted day) r n p g =
       let is = list_of slate_terms book day r b ∙ list_is (planning_of Ordering 0 day) b (wide day r) in
-      let a : Err (record { number = n; place = p }) ≡ Ok (length (planning_of Ordering 0 day).plans) =
+      let a : list-answer.Refused n p ≡ list-answer.Plans (length (planning_of Ordering 0 day).plans) =
       ap (λ (y : Outcome ListAnswer). y.answer) (g ∙ is) in
       never (cc)
 
   -- The list is refused: so is the book.
-  pub list_turned : (n p : ℕ) → gives (Err (record { number = n; place = p })) after ≡ list_call slate_terms book b →
+  pub list_turned : (n p : ℕ) → gives (list-answer.Refused n p) after ≡ list_call slate_terms book b →
       bytes_of (printed slate_terms book) ≡ refused_line n p
   unfolding bytes_of
   list_turned n p g = ap bytes_of (turned (read_by slate_terms book) refl n p g)
 
   heard : (count : ℕ) (t : Table) → read_by slate_terms book ≡ accepted (day_in t) → length (table_rows t) ≡ t.count →
-      gives (Ok count) after ≡ list_call slate_terms book b → Heard book t count after
+      gives (list-answer.Plans count) after ≡ list_call slate_terms book b → Heard book t count after
   unfolding plans_by
   heard count t r n e =
       let g = planning_of Ordering 0 (day_in t) in
@@ -95,16 +95,16 @@ module _ (book b after : List ℕ) (room : length b ≡ 512) where
       }
 
   listed_day : (count : ℕ) (x : Contents) → read_by slate_terms book ≡ x →
-      gives (Ok count) after ≡ list_call slate_terms book b → (day : Day) × (read_by slate_terms book ≡ accepted day)
+      gives (list-answer.Plans count) after ≡ list_call slate_terms book b → (day : Day) × (read_by slate_terms book ≡ accepted day)
   listed_day count (accepted day) r g = (day, r)
   listed_day count (refused m q) r g =
-      let a : Ok count ≡ Err (record { number = m; place = q }) =
+      let a : list-answer.Plans count ≡ list-answer.Refused m q =
       ap (λ (y : Outcome ListAnswer). y.answer) (g ∙ list_refused slate_terms book m q r b) in
       never (cc)
 
   -- The plans are listed: the table of the book is heard with them.
   pub list_heard : (count : ℕ) (r : Reading) → r ≡ reading_of (read_words book) →
-      gives (Ok count) after ≡ list_call slate_terms book b → Heard book r.table count after
+      gives (list-answer.Plans count) after ≡ list_call slate_terms book b → Heard book r.table count after
   unfolding reading_of table_of
   list_heard count r f g =
       let d = listed_day count (read_by slate_terms book) refl g in

@@ -1,12 +1,12 @@
 -- `change` meets its contract: no desk, a pace outside, rows left that disagree; otherwise the words after the change.
 -- Assumes nothing.
-use Rattle.std.specs.Prelude.{Ok}
 use mathlib.Core.Bool.{true, not}
 use mathlib.Core.Path.{◌≡◌, sym, ap, ◌∙◌}
 use Prim.Native.Nat.{◌≤◌}
 use Rattle.refusals.specs.Refusals.{by_range}
 use Rattle.outcomes.specs.Planning.{gives}
 use Rattle.running.specs.Words.{running, keeps_pages}
+use Rattle.desk_pace.specs.declared.PaceAnswer.TheVariants as pace-answer
 use Rattle.desk_pace.proofs.PaceLaws.{tests_outside, paced, tests_inside, pace_none, pace_no, pace_yes}
 use Rattle.desk_pace.proofs.change.Goals as goal
 
@@ -33,5 +33,5 @@ store-requires c =
 pub returns : goal.returns
 returns c =
     let e = c.in_default.is in
-    ap (gives (Ok tt)) c.store.ensures ∙
+    ap (gives pace-answer.Changed) c.store.ensures ∙
     sym (pace_yes _ _ (sym c.keeps_pages.ensures ∙ c.if-not-keeps_pages.false) (tests_inside _ _ (ap not c.if-not-pace.false) ∙ sym c.left_tests-test.ensures ∙ e))

@@ -3,6 +3,7 @@
 use native.Mathlib.Omega.{arith}
 use Prim.Native.Nat.{ℕ}
 use mathlib.Core.Path.{◌≡◌, refl, sym, ap, ◌∙◌, subst}
+use Rattle.refusals.specs.declared.Tested.TheVariants.{Refused}
 use Rattle.pairs.specs.Pairs.{number_word}
 use Rattle.running.specs.Words.{running}
 use Rattle.running.proofs.Fits.{keeps_says}

@@ -1,6 +1,5 @@
 -- `start` meets its contract: no desk, then the tests, then the move.
 -- Assumes nothing.
-use Rattle.std.specs.Prelude.{Ok}
 use native.Mathlib.Omega.{arith}
 use Prim.Native.Nat.{ℕ, ◌<◌}
 use mathlib.Core.Bool.{Bool, true}
@@ -9,18 +8,20 @@ use mathlib.Core.Path.{◌≡◌, sym, ap, ◌∙◌}
 use Rattle.schedule.specs.declared.Desk.{Desk}
 use Rattle.schedule.specs.Offset.{lowered}
 use Rattle.schedule.proofs.SignedWords.{lowered_word}
-use Rattle.refusals.specs.Tests.{Tested}
+use Rattle.refusals.specs.declared.Tested.{Tested}
+use Rattle.refusals.specs.declared.Tested.TheVariants.{Passed}
 use Rattle.outcomes.specs.Planning.{gives}
 use Rattle.running.specs.Running.{start_tests}
 use Rattle.running.specs.Words.{is_desk, moved_words, running}
 use Rattle.running.proofs.Fits.{desk_says}
 use Rattle.running.proofs.Moves.{StartFits, start_fits}
+use Rattle.desk_start.specs.declared.StartAnswer.TheVariants as start-answer
 use Rattle.desk_start.proofs.StartLaws.{start_none, start_no, taken, start_moved}
 use Rattle.desk_start.proofs.start.Goals as goal
 
 -- A start that passed its tests fits.
 fits : {b : Bool} {t : Tested} (ws : List ℕ) (row minute : ℕ) → b ≡ is_desk ws → b ≡ true → t ≡ start_tests (running ws) row minute →
-    t ≡ Ok tt → StartFits ws row minute
+    t ≡ Passed → StartFits ws row minute
 fits ws row minute e h t p = start_fits _ ((desk_says _).0 (sym e ∙ h)) _ _ (sym t ∙ p)
 
 pub returns-then-not-is_desk : goal.returns-then-not-is_desk
@@ -63,5 +64,5 @@ returns c =
     let z = lowered_word t.result.worst c.lower.result w c.lower.ensures ∙ ap (λ (d : Desk). lowered d.worst) after in
     let v = c.store.ensures ∙
     ap (λ (d : Desk). moved_words s.desk.now s.row d.minute d.worst) after in
-    (λ x. gives (Ok (record { minute = after x; late = .minute }) (z x)) (v x)) ∙
+    (λ x. gives (start-answer.Moved (after x).minute (z x)) (v x)) ∙
     start_moved s.desk.now s.row s.minute (sym c.is_desk.ensures ∙ c.if-not-is_desk.false) (sym c.start_tests-test.ensures ∙ c.in_default.is)

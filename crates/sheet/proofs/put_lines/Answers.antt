@@ -2,7 +2,7 @@
 -- Assumes nothing.
 use native.Mathlib.Nat.{le_refl}
 use mathlib.Core.Path.{sym, ap, ◌∙◌}
-use Rattle.outcomes.specs.Answers.{ListAnswer}
+use Rattle.outcomes.specs.declared.ListAnswer.{ListAnswer}
 use Rattle.outcomes.specs.Planning.{gives}
 use Rattle.lines.proofs.Adding.{same_added}
 use Rattle.sheet.proofs.Choosing.{odd_shown, even_shown, list_turned, all_counted, same_counted}
