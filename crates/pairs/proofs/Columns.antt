@@ -3,7 +3,6 @@
 use Prim.Native.Nat.{ℕ, zero, suc, ◌+◌, ◌-◌, ◌≤◌, ◌<◌}
 use native.Mathlib.Omega.{arith}
 use native.Mathlib.Decide.{dec_le}
-use native.Mathlib.Numerals.{add-one}
 use mathlib.Core.Bool.{Bool, true, false, ◌||◌}
 use mathlib.Core.Path.{◌≡◌, refl, sym, ap, ◌∙◌}
 use mathlib.Core.List.{List}
@@ -52,9 +51,17 @@ module _ (dues seconds : List ℕ) where
   unfolding some_clash
   some_none = refl
 
-  pub some_one : (i : ℕ) → some_clash dues seconds (i + 1) ≡ (some_clash dues seconds i || any_clashes dues seconds (i + 1) (i + 1 - 1))
+  -- One turn: what was found up to row i, and how row i compares.
+  pub some_turn : (i : ℕ) → 1 ≤ i → (found clashes : Bool) → found ≡ some_clash dues seconds (i - 1) →
+      clashes ≡ any_clashes dues seconds i (i - 1) →
+      (found || clashes) ≡ some_clash dues seconds i
   unfolding some_clash
-  some_one i = let same : i + 1 - 1 ≡ i = omega arith in rw (same, add-one)
+  some_turn zero h found clashes e f = let x : ⊥ = omega arith in absurd x
+  some_turn (suc i) h found clashes e f =
+      let same : suc i - 1 ≡ i = omega arith in
+      let before : found ≡ some_clash dues seconds i = rw same at e in
+      let here : clashes ≡ any_clashes dues seconds (suc i) i = rw same at f in
+      rw (before, here) refl
 
 -- Row i + 1 against the rows above it is that place of the columns against the places above it.
 above_some : (clash : Row → Row → Bool) (rows : List Row) (dues seconds : List ℕ) → Columned clash rows dues seconds → (i : ℕ) →

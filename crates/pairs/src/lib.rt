@@ -24,10 +24,8 @@ fn clashes_above(dues: &[u32; Desk::PLACES], seconds: &[u32; Desk::PLACES], row:
     let due = dues[row];
     let second = seconds[row];
     let mut found = false;
-    let mut j = 1;
-    while j < row {
+    for j in 1..row {
         found = found | pair_clashes(due, second, dues[j], seconds[j]);
-        j += 1;
     }
     found
 }
@@ -38,9 +36,7 @@ fn any_clash(dues: &[u32; Desk::PLACES], seconds: &[u32; Desk::PLACES], count: u
     ensures { result ≡ some_clash dues.now seconds.now count }
 {
     let mut found = false;
-    let mut i = 0;
-    while i < count {
-        i += 1;
+    for i in 1..=count {
         found = found | clashes_above(dues, seconds, i);
     }
     found
@@ -56,21 +52,15 @@ fn earliest_clash(
     requires { (count ≤ most_rows) × (length dues.now ≡ row_places) × (length seconds.now ≡ row_places) }
     ensures { ColumnsTested dues.now seconds.now count number result }
 {
-    let mut i = 1;
-    'rows: loop {
-        if count < i {
-            break 'rows Tested::Passed;
-        }
-        let mut j = 1;
-        while j < i {
+    for i in 1..=count {
+        for j in 1..i {
             if pair_clashes(dues[i], seconds[i], dues[j], seconds[j]) {
                 let place = 4 * (i - 1) + 2;
-                break 'rows Tested::Refused(number, place);
+                return Tested::Refused(number, place);
             }
-            j += 1;
         }
-        i += 1;
     }
+    Tested::Passed
 }
 
 // The test of row pairs, over the columns of the rows. Most books have no clash: so it is asked first whether there is one, without a

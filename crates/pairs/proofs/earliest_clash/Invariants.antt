@@ -7,14 +7,8 @@ use Rattle.pairs.specs.Columns.{any_clashes}
 use Rattle.pairs.proofs.Columns.{ScanAt}
 use Rattle.pairs.proofs.earliest_clash.Given as goal
 
+abbrev pub invariant-loop-i : goal.invariant-loop-i
+invariant-loop-i l = (l.i ≤ l.count + 1) × ScanAt l.dues l.seconds l.count l.number l.i
+
 abbrev pub invariant-loop-j : goal.invariant-loop-j
-invariant-loop-j l = (1 ≤ l.j) × (l.j ≤ l.i) × (any_clashes l.dues l.seconds l.i (l.j - 1) ≡ false)
-
-abbrev pub decreases-loop-j : goal.decreases-loop-j
-decreases-loop-j l = l.i - l.j
-
-abbrev pub invariant-rows : goal.invariant-rows
-invariant-rows l = (1 ≤ l.i) × (l.i ≤ l.count + 1) × ScanAt l.dues l.seconds l.count l.number l.i
-
-abbrev pub decreases-rows : goal.decreases-rows
-decreases-rows l = l.count + 1 - l.i
+invariant-loop-j l = any_clashes l.dues l.seconds l.i (l.j - 1) ≡ false
