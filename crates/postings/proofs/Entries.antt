@@ -10,7 +10,7 @@ use mathlib.Core.List.{List, [], ◌∷◌}
 use lib.Dec.{ltb, eqb}
 use lib.ListN.{length, drop, get_or, set, replicate}
 use lib.Seq.{drop-cons, get_or-set_same, get_or-set_other, drop-length}
-use borrow.Author.Tests.{lt-ltb, le-ltb, eq-eqb, ne_eqb, ltb-false}
+use borrow.Author.Tests.{eq-eqb, ne_eqb, ltb-false}
 use Rattle.schedule.specs.Limits.{row_places}
 use Rattle.schedule.specs.Rows.{stands}
 use Rattle.schedule.proofs.Tests.{neither}
@@ -42,15 +42,6 @@ marks_more seen s k h m i = go (ℕ_discrete i k) ∙ sym (stands_more i k s)
 
 -- One entry's test: no row, past the last, or marked.
 module _ (n entry : ℕ) (b : Bool) where
-  pub stray_none : entry ≡ 0 → true ≡ (eqb entry 0 || ltb n entry || b)
-  stray_none e = simp (eq-eqb entry 0 e)
-
-  pub stray_past : (entry ≡ 0 → ⊥) → n < entry → true ≡ (eqb entry 0 || ltb n entry || b)
-  stray_past d h = simp (ne_eqb entry 0 d, lt-ltb n entry h)
-
-  pub stray_marked : (entry ≡ 0 → ⊥) → entry ≤ n → b ≡ (eqb entry 0 || ltb n entry || b)
-  stray_marked d h = simp (ne_eqb entry 0 d, le-ltb n entry h)
-
   pub stray_not : (eqb entry 0 || ltb n entry || b) ≡ false → entry ≤ n
   stray_not e = ltb-false n entry (neither (eqb entry 0) (ltb n entry) (neither (eqb entry 0 || ltb n entry) b e).0).1
 
@@ -76,19 +67,16 @@ unfolding entry_tests
 entries_end n posting s k e = ap (entry_tests n s k) (ap (λ (m : ℕ). drop m posting) e ∙ drop-length posting)
 
 -- The length of a posting.
-pub posting_short : (n : ℕ) (posting : List ℕ) → length posting < n → Refused by_not_posting (length posting) ≡ posting_tests n posting
+pub posting_uneven : (n : ℕ) (posting : List ℕ) (m : ℕ) → (length posting ≡ n → ⊥) → m ≡ min (length posting) n →
+    Refused by_not_posting m ≡ posting_tests n posting
 unfolding posting_tests refuse_if ◌then◌
-posting_short n posting h =
-    let d : length posting ≡ n → ⊥ = λ e. omega arith in
-    let m : min (length posting) n ≡ length posting = omega arith in
-    rw (ne_eqb (length posting) n d, m) refl
+posting_uneven n posting m d e = rw (ne_eqb (length posting) n d, e) refl
+
+pub posting_short : (n : ℕ) (posting : List ℕ) → length posting < n → Refused by_not_posting (length posting) ≡ posting_tests n posting
+posting_short n posting h = posting_uneven n posting (length posting) (λ e. omega arith) (omega arith)
 
 pub posting_long : (n : ℕ) (posting : List ℕ) → n < length posting → Refused by_not_posting n ≡ posting_tests n posting
-unfolding posting_tests refuse_if ◌then◌
-posting_long n posting h =
-    let d : length posting ≡ n → ⊥ = λ e. omega arith in
-    let m : min (length posting) n ≡ n = omega arith in
-    rw (ne_eqb (length posting) n d, m) refl
+posting_long n posting h = posting_uneven n posting n (λ e. omega arith) (omega arith)
 
 pub posting_even : (n : ℕ) (posting : List ℕ) → length posting ≡ n → entry_tests n [] 0 posting ≡ posting_tests n posting
 unfolding posting_tests refuse_if ◌then◌

@@ -13,14 +13,8 @@ fn is_stray(seen: &[bool; Desk::PLACES], n: usize, entry: u32) -> bool
     requires { (n ≤ most_rows) × (length seen.now ≡ row_places) }
     ensures { result ≡ (eqb entry 0 || ltb n entry || get_or seen.now entry false) }
 {
-    if entry == 0 {
-        return true;
-    }
     let i = entry as usize;
-    if n < i {
-        return true;
-    }
-    seen[i]
+    i == 0 || n < i || seen[i]
 }
 
 // The entries of a posting of n rows one after another.
@@ -29,14 +23,11 @@ fn entry_tests(n: usize, posting: &[u32]) -> Tested
     ensures { result ≡ entry_tests n [] 0 posting.now }
 {
     let mut seen = [false; Desk::PLACES];
-    let mut k: usize = 0;
-    while k < n {
-        let entry = posting[k];
+    for (k, &entry) in posting.iter().enumerate() {
         if is_stray(&seen, n, entry) {
             return Tested::Refused(Tested::NOT_POSTING, k);
         }
         seen[entry as usize] = true;
-        k += 1;
     }
     Tested::Passed
 }
@@ -47,11 +38,8 @@ pub fn posting_tests(n: usize, posting: &[u32]) -> Tested
     ensures { result ≡ posting_tests n posting.now }
 {
     let size = posting.len();
-    if size < n {
-        return Tested::Refused(Tested::NOT_POSTING, size);
-    }
-    if n < size {
-        return Tested::Refused(Tested::NOT_POSTING, n);
+    if size != n {
+        return Tested::Refused(Tested::NOT_POSTING, size.min(n));
     }
     entry_tests(n, posting)
 }

@@ -4,12 +4,14 @@ use Prim.Native.Nat.{ℕ, zero, suc, ◌+◌, ◌≤◌, ◌<◌}
 use native.Mathlib.Omega.{arith}
 use native.Mathlib.Numerals.{add-one}
 use native.Mathlib.Decide.{dec_le}
-use mathlib.Core.Bool.{true, ◌&&◌, ◌||◌}
+use mathlib.Core.Bool.{Bool, true, ◌&&◌, ◌||◌}
 use mathlib.Core.Path.{◌≡◌, refl, ap, ◌∙◌, subst}
 use mathlib.Core.List.{List, map}
 use mathlib.Core.Logic.{◌↔◌, ◌⊎◌, inl, inr}
 use lib.Dec.{T, leb, eqb, leb→le, le→leb}
-use lib.ListN.{length, get_or, length-map}
+use lib.ListN.{length, take, drop, get_or, length-map}
+use lib.Seq.{get_or-take, get_or-drop}
+use Rattle.std.proofs.lemmas.List.{length-take}
 use borrow.Author.Tests.{eqb-true}
 use Rattle.schedule.specs.Limits.{most_rows, latest_minute, longest_length, latest_due, most_pages, most_opening, latest_stand}
 use Rattle.schedule.specs.Rows.{count_from}
@@ -43,6 +45,16 @@ module _ (before least most : ℕ) (ws : List ℕ) where
       (column_fits before least most ws n && between least most (at ws (before + (n + 1))))
   unfolding column_fits
   fits_one n = rw add-one
+
+  -- One word more of a part of a run: the one behind those tested.
+  pub fits_more : (m i : ℕ) (fit b : Bool) → i < length (take m (drop (before + 1) ws)) → fit ≡ column_fits before least most ws i →
+      b ≡ between least most (at (take m (drop (before + 1) ws)) i) → (fit && b) ≡ column_fits before least most ws (i + 1)
+  fits_more m i fit b h e f =
+      let few : i < m = omega (arith, length-take m (drop (before + 1) ws)) in
+      let place : before + 1 + i ≡ before + (i + 1) = omega arith in
+      let word : at (take m (drop (before + 1) ws)) i ≡ at ws (before + (i + 1)) =
+      get_or-take m (drop (before + 1) ws) i 0 few ∙ get_or-drop (before + 1) ws i 0 ∙ ap (at ws) place in
+      rw (fits_one i, e, f, word) refl
 
   abbrev Between : ℕ → Type 0
   Between i = (least ≤ at ws (before + i)) × (at ws (before + i) ≤ most)

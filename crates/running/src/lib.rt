@@ -66,11 +66,9 @@ fn column_fits(desk: &[u32], before: usize, least: u32, most: u32, n: usize) -> 
     requires { (n ≤ most_rows) × (before + most_rows < desk_words) × (desk_words ≤ length desk.now) }
     ensures { result ≡ column_fits before least most desk.now n }
 {
-    let mut i: usize = 0;
     let mut fit = true;
-    while i < n {
-        i += 1;
-        fit = fit & is_between(least, most, desk[before + i]);
+    for word in &desk[before + 1..before + 1 + n] {
+        fit = fit & is_between(least, most, *word);
     }
     fit
 }
@@ -91,7 +89,7 @@ fn rows_fit(desk: &[u32], n: usize) -> bool
     );
     let due = column_fits(desk, Layout::DUES, 0, Desk::DUES, n);
     let mark = column_fits(desk, Layout::MARKS, 0, 1, n);
-    release & (time & (due & mark))
+    release & time & due & mark
 }
 
 // The count of rows, the minute, the opening and the worst lateness so far are in theirs.
@@ -101,38 +99,30 @@ fn head_fits(desk: &[u32]) -> bool
 {
     let worst = desk[Layout::WORST];
     is_between(1, Layout::MOST_ROWS, desk[Layout::COUNT])
-        & ((desk[Layout::MINUTE] <= Layout::LATEST_STAND)
-            & ((desk[Layout::OPENING] <= Desk::OPENING)
-                & ((worst == 0) | is_between(Layout::LEAST_RAISED, Layout::MOST_RAISED, worst))))
+        & (desk[Layout::MINUTE] <= Layout::LATEST_STAND)
+        & (desk[Layout::OPENING] <= Desk::OPENING)
+        & ((worst == 0) | is_between(Layout::LEAST_RAISED, Layout::MOST_RAISED, worst))
 }
 
 // The words hold a desk.
 pub fn is_desk(desk: &[u32]) -> bool
     ensures { result ≡ is_desk desk.now }
 {
-    if desk.len() < Layout::WORDS {
-        return false;
-    }
-    if head_fits(desk) {
-        return rows_fit(desk, desk[Layout::COUNT] as usize);
-    }
-    false
+    desk.len() >= Layout::WORDS && head_fits(desk) && rows_fit(desk, desk[Layout::COUNT] as usize)
 }
 
 // The words hold a desk, and the pages of each of its rows.
 pub fn keeps_pages(desk: &[u32]) -> bool
     ensures { result ≡ keeps_pages desk.now }
 {
-    if is_desk(desk) {
-        return column_fits(
+    is_desk(desk)
+        && column_fits(
             desk,
             Layout::PAGES,
             1,
             Desk::PAGES,
             desk[Layout::COUNT] as usize,
-        );
-    }
-    false
+        )
 }
 
 // The first n rows of a column, into the column of the desk that begins after a place.
@@ -141,9 +131,5 @@ pub fn put_column(desk: &mut [u32], before: usize, column: &[u32; Desk::PLACES],
         (length column.now ≡ row_places) }
     ensures { desk.new ≡ put (before + 1) (take n (drop 1 column.now)) desk.old }
 {
-    let mut i: usize = 0;
-    while i < n {
-        i += 1;
-        desk[before + i] = column[i];
-    }
+    desk[before + 1..before + 1 + n].copy_from_slice(&column[1..n + 1]);
 }

@@ -1,9 +1,9 @@
 -- `head_fits` meets its contract.
 -- Assumes nothing.
-use mathlib.Core.Path.{refl}
+use Rattle.std.proofs.Math.Bool.{and_assoc}
 use Rattle.running.specs.Words.{head_fits}
 use Rattle.running.proofs.head_fits.Goals as goal
 
 pub returns : goal.returns
 unfolding head_fits
-returns c = rw (c.is_between-2.ensures, c.is_between.ensures) refl
+returns c = simp (c.is_between-2.ensures, c.is_between.ensures, and_assoc)

@@ -14,9 +14,6 @@ held e h = (desk_says _).0 (sym e ∙ h)
 pub bounds-desk-0 : goal.bounds-desk-0
 bounds-desk-0 c = omega (arith, (held c.is_desk.ensures c.if-is_desk.true).long)
 
-pub overflow_cast-desk : goal.overflow_cast-desk
-overflow_cast-desk c = omega (arith, (held c.is_desk.ensures c.if-is_desk.true).count)
-
 pub column_fits-requires : goal.column_fits-requires
 column_fits-requires c = ((held c.is_desk.ensures c.if-is_desk.true).count.1, omega arith, (held c.is_desk.ensures c.if-is_desk.true).long)
 
@@ -25,6 +22,6 @@ unfolding keeps_pages
 returns-then-is_desk c =
     rw (sym c.is_desk.ensures ∙ c.if-is_desk.true) c.column_fits.ensures
 
-pub returns : goal.returns
+pub returns-else-is_desk : goal.returns-else-is_desk
 unfolding keeps_pages
-returns c = rw (sym c.is_desk.ensures ∙ c.if-is_desk.false)
+returns-else-is_desk c = rw (c.if-is_desk.false, sym c.is_desk.ensures ∙ c.if-is_desk.false)
