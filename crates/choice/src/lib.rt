@@ -43,21 +43,19 @@ pub fn place_within(lates: &[u32; Desk::ROWS], from: usize, count: usize, bound:
     requires { (count ≤ most_rows) × (length lates.now ≡ most_rows) × (from ≤ place_within bound (take count lates.now)) }
     ensures { result ≡ place_within bound (take count lates.now) }
 {
-    let mut k = from;
-    while k < count {
+    for k in from..count {
         if lates[k] <= bound {
             return k;
         }
-        k += 1;
     }
-    k
+    count
 }
 
 // How far an end passes closing, or 0.
 fn over(end: u32, closing: u32) -> u32
     ensures { result ≡ overtime end closing }
 {
-    if end < closing { 0 } else { end - closing }
+    end.saturating_sub(closing)
 }
 
 // Each desk's first listed plan within the bound. The cursor of each desk goes forward to it, and is never past it.
@@ -77,17 +75,15 @@ fn first_plans(
 {
     let mut late: u32 = 0;
     let mut sum: u64 = 0;
-    let mut d: usize = 0;
-    while d < closings.len() {
+    for (d, closing) in closings.iter().enumerate() {
         let count = plans[d];
         let k = place_within(&fronts[2 * d + 1], cursors[d], count, bound);
         if k == count {
             return Taken::None;
         }
         cursors[d] = k;
-        late = schedule::later(late, fronts[2 * d + 1][k]);
-        sum += over(fronts[2 * d][k], closings[d]) as u64;
-        d += 1;
+        late = late.max(fronts[2 * d + 1][k]);
+        sum += u64::from(over(fronts[2 * d][k], *closing));
     }
     Taken::Plans(late, sum)
 }
@@ -104,18 +100,15 @@ pub fn choose(
     ensures { result ≡ best_of limit closings.now
         (lists_in plans.now fronts.now (length closings.now)) }
 {
-    let mut cursors: [usize; Desks::MOST] = [0; Desks::MOST];
+    let mut cursors = [0; Desks::MOST];
     let mut best = Taken::None;
-    let mut bound: u32 = LARGEST_BOUND;
-    loop {
-        let Taken::Plans(late, sum) = first_plans(plans, fronts, closings, bound, &mut cursors)
-        else {
-            return best;
-        };
-        if (limit as u64) < sum {
+    let mut bound = LARGEST_BOUND;
+    while let Taken::Plans(late, sum) = first_plans(plans, fronts, closings, bound, &mut cursors) {
+        if u64::from(limit) < sum {
             return best;
         }
         best = Taken::Plans(late, sum);
         bound = late - 1;
     }
+    best
 }

