@@ -13,52 +13,27 @@ fn sum_of(lengths: &[u32]) -> u64
     requires { length lengths.now ≤ most_desks }
     ensures { result ≡ total lengths.now }
 {
-    let mut sum: u64 = 0;
-    let mut d: usize = 0;
-    while d < lengths.len() {
-        sum += lengths[d] as u64;
-        d += 1;
-    }
-    sum
+    lengths.iter().map(|length| u64::from(*length)).sum()
 }
 
 // Every closing minute is in its range.
 fn all_open(closings: &[u32]) -> bool
     ensures { result ≡ all_open closings.now }
 {
-    let mut d: usize = 0;
-    while d < closings.len() {
-        if Desks::CLOSING < closings[d] {
-            return false;
-        }
-        d += 1;
-    }
-    true
+    closings.iter().all(|closing| *closing <= Desks::CLOSING)
 }
 
 // Something that concerns no single book is wrong: the opening, the desks' count, the limit, a closing minute, or the lengths, which do
 // not add up to the run.
+#[tactic(auto, unfolding(crate::specs::Lent::lent_amiss))]
 pub fn lent_amiss(opening: u32, run: usize, lengths: &[u32], closings: &[u32], limit: u32) -> bool
     ensures { result ≡ lent_amiss opening run lengths.now closings.now limit }
 {
-    if Desk::OPENING < opening {
-        return true;
-    }
-    if Desks::LIMIT < limit {
-        return true;
-    }
-    let desks = lengths.len();
-    if desks == 0 {
-        return true;
-    }
-    if Desks::MOST < desks {
-        return true;
-    }
-    if closings.len() != desks {
-        return true;
-    }
-    if !all_open(closings) {
-        return true;
-    }
-    sum_of(lengths) != (run as u64)
+    Desk::OPENING < opening
+        || Desks::LIMIT < limit
+        || lengths.is_empty()
+        || Desks::MOST < lengths.len()
+        || closings.len() != lengths.len()
+        || !all_open(closings)
+        || sum_of(lengths) != run as u64
 }
