@@ -1,4 +1,4 @@
--- One pair against another, and the first plan of a list that beats a pair, as a loop finds it.
+-- The first plan of a list that beats a pair, as a loop finds it.
 -- Assumes nothing.
 use Prim.Native.Nat.{ℕ, suc, ◌+◌, ◌≤◌, ◌<◌}
 use native.Mathlib.Omega.{arith}
@@ -7,34 +7,13 @@ use mathlib.Core.Bool.{true, false, cond}
 use mathlib.Core.Path.{◌≡◌, refl, sym, ap, ◌∙◌}
 use mathlib.Core.List.{List, []}
 use mathlib.Core.Option.{some}
-use lib.Dec.{ltb}
 use lib.ListN.{length, take, drop, get_or}
 use lib.Seq.{drop-cons, drop-length}
-use borrow.Author.Tests.{le-leb, lt-leb, lt-ltb, le-ltb}
 use Rattle.schedule.specs.Desk.{Pair}
 use Rattle.schedule.specs.Plans.{beats, first_beating}
-use Rattle.schedule.proofs.Raised.{lowered_le, lowered_lt}
 use Rattle.listing.specs.Fronts.{pair_at, pairs_of}
 use Rattle.results.specs.Results.{or_zero}
 use Rattle.listing.proofs.Fronts.{first_length, first_at_lem}
-
--- One pair against another: raised latenesses compare as the signed ones do.
-module _ (e l f m : ℕ) where
-  pub later_end : f < e → false ≡ beats (pair_at e l) (pair_at f m)
-  unfolding beats
-  later_end h = simp (lt-leb e f h)
-
-  pub later_late : e ≤ f → m < l → false ≡ beats (pair_at e l) (pair_at f m)
-  unfolding beats
-  later_late h k = simp (le-leb e f h, lowered_le l m, lt-leb l m k)
-
-  pub sooner_end : e < f → l ≤ m → true ≡ beats (pair_at e l) (pair_at f m)
-  unfolding beats
-  sooner_end h k = let g : e ≤ f = omega arith in simp (le-leb e f g, lowered_le l m, le-leb l m k, lt-ltb e f h)
-
-  pub same_ends : e ≤ f → f ≤ e → l ≤ m → ltb l m ≡ beats (pair_at e l) (pair_at f m)
-  unfolding beats
-  same_ends h g k = simp (le-leb e f h, lowered_le l m, le-leb l m k, le-ltb e f g, lowered_lt l m)
 
 -- The first plan that beats a pair.
 no_pair : Pair

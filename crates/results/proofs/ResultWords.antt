@@ -1,6 +1,6 @@
 -- The words of a list, as a loop writes them: two for each plan, behind those that stand there.
 -- Assumes nothing.
-use Prim.Native.Nat.{ℕ, suc, ◌+◌, ◌-◌, ◌*◌, ◌≤◌, ◌<◌}
+use Prim.Native.Nat.{ℕ, suc, ◌+◌, ◌*◌, ◌<◌}
 use native.Mathlib.Omega.{arith}
 use native.Mathlib.Nat.{not-suc-le-zero, le_of_suc-le-suc}
 use native.Mathlib.Numerals.{add-one}
@@ -9,19 +9,9 @@ use mathlib.Core.List.{List, [], ◌∷◌, ◌++◌}
 use lib.ListN.{length, take, drop, get_or, set}
 use Rattle.schedule.specs.Desk.{Pair}
 use Rattle.schedule.specs.Offset.{lowered}
-use Rattle.schedule.proofs.Signed.{sub_cases}
 use Rattle.results.specs.Results.{written, complement, plan_words}
 use Rattle.listing.specs.Fronts.{pair_at, pairs_of}
 use Rattle.listing.proofs.Fronts.{first_length, first_more}
-
--- Two's complement of what is raised: the top bit is turned over.
-pub word_below : (n : ℕ) → n < 2147483648 → n + 2147483648 ≡ complement (lowered n)
-unfolding complement
-word_below n h = sub_cases n 2147483648 (λ z. n + 2147483648 ≡ complement z) (λ k e. omega arith) (λ k e. omega arith)
-
-pub word_above : (n : ℕ) → 2147483648 ≤ n → n - 2147483648 ≡ complement (lowered n)
-unfolding complement
-word_above n h = sub_cases n 2147483648 (λ z. n - 2147483648 ≡ complement z) (λ k e. omega arith) (λ k e. omega arith)
 
 pub plan_length : (ps : List Pair) → length (plan_words ps) ≡ 2 * length ps
 unfolding plan_words

@@ -14,11 +14,7 @@ use schedule::Desk;
 fn word_of(late: u32) -> u32
     ensures { result ≡ complement (lowered late) }
 {
-    if late < 2_147_483_648 {
-        late + 2_147_483_648
-    } else {
-        late - 2_147_483_648
-    }
+    schedule::lower(late).cast_unsigned()
 }
 
 // The words of the first plans of two columns, ends and raised latenesses, to the front of a lent buffer.
@@ -33,13 +29,9 @@ pub fn write_plans<'a>(
     ensures { res.new ≡
         written (plan_words (pairs_of (take count ends.now) (take count lates.now))) res.old }
 {
-    let mut k: usize = 0;
-    while k < count {
-        let end = ends[k];
-        let late = lates[k];
-        res[2 * k] = end;
-        res[2 * k + 1] = word_of(late);
-        k += 1;
+    for k in 0..count {
+        res[2 * k] = ends[k];
+        res[2 * k + 1] = word_of(lates[k]);
     }
 }
 
@@ -47,16 +39,7 @@ pub fn write_plans<'a>(
 fn beats_pair(end: u32, late: u32, mark: u32, limit: u32) -> bool
     ensures { result ≡ beats (pair_at end late) (pair_at mark limit) }
 {
-    if mark < end {
-        return false;
-    }
-    if limit < late {
-        return false;
-    }
-    if end < mark {
-        return true;
-    }
-    late < limit
+    (end <= mark) & (late <= limit) & ((end < mark) | (late < limit))
 }
 
 // The number of the first plan of two columns that beats a pair, from 1, or 0.
@@ -71,12 +54,10 @@ pub fn first_beating<'a>(
     ensures { result ≡
         or_zero (first_beating 1 (pairs_of (take count ends.now) (take count lates.now)) (pair_at end late)) }
 {
-    let mut i: usize = 0;
-    while i < count {
+    for i in 0..count {
         if beats_pair(ends[i], lates[i], end, late) {
             return i + 1;
         }
-        i += 1;
     }
     0
 }

@@ -1,11 +1,11 @@
 -- The rows left on a desk as its words hold them: how many they are, which, and that they rise; and how they are noted row by row.
 -- Assumes nothing.
-use Prim.Native.Nat.{ℕ, zero, suc, ◌+◌, ◌≤◌, ◌<◌}
+use Prim.Native.Nat.{ℕ, zero, suc, ◌+◌, ◌-◌, ◌≤◌, ◌<◌}
 use native.Mathlib.Omega.{arith}
 use native.Mathlib.Decide.{dec_lt}
 use native.Mathlib.Numerals.{add-one}
 use mathlib.Core.Bool.{Bool, true, false, cond}
-use mathlib.Core.Path.{◌≡◌, sym, ◌∙◌, subst}
+use mathlib.Core.Path.{◌≡◌, sym, ap, ◌∙◌, subst}
 use mathlib.Core.List.Memᴰ
 use mathlib.Core.List.{List, [], ◌∷◌, ◌++◌, Memᴰ}
 use mathlib.Core.Logic.{◌⊎◌, inl, inr}
@@ -125,3 +125,26 @@ noted_next ws i m rows inside noted r new e f =
     let g : left_to ws (i + 1) ≡ cond (eqb (at ws (marks + (i + 1))) 0) (left_to ws i ++ (suc i ∷ [])) (left_to ws i) = rw add-one in
     subst (λ (xs : List ℕ). NotedTo xs (i + 1) r new) (sym g)
     (noted_by (left_to ws i) i m rows inside noted (eqb (at ws (marks + (i + 1))) 0) r new e f)
+
+-- The rows left before row i, m of them, are noted; and that row too, if its mark is 0.
+abbrev pub NotedBefore : (ws : List ℕ) (i m : ℕ) (rows : List ℕ) → Type 0
+NotedBefore ws i m rows = NotedTo (left_to ws (i - 1)) (i - 1) m rows
+
+pub noted_row : (ws : List ℕ) (i m : ℕ) (rows : List ℕ) → 1 ≤ i → i ≤ most_rows → NotedBefore ws i m rows → (r : ℕ) (new : List ℕ) →
+    r ≡ cond (eqb (at ws (marks + i)) 0) (m + 1) m → new ≡ cond (eqb (at ws (marks + i)) 0) (set rows (m + 1) i) rows →
+    NotedBefore ws (i + 1) r new
+noted_row ws i m rows first last noted r new e f =
+    let same : i ≡ i - 1 + 1 = omega arith in
+    let next : i - 1 + 1 ≡ i + 1 - 1 = omega arith in
+    subst (λ (k : ℕ). NotedTo (left_to ws k) k r new) next
+    (noted_next ws (i - 1) m rows (omega arith) noted r new
+    (e ∙ ap (λ (j : ℕ). cond (eqb (at ws (marks + j)) 0) (m + 1) m) same)
+    (f ∙ ap (λ (j : ℕ). cond (eqb (at ws (marks + j)) 0) (set rows (m + 1) j) rows) same))
+
+-- All rows are noted once the last is.
+pub noted_all : (ws : List ℕ) (n i m : ℕ) (rows : List ℕ) → i ≡ n + 1 → NotedBefore ws i m rows →
+    (m ≡ length (left_to ws n)) × Filled row_places (from 1) (λ k. get_or (left_to ws n) k 0) m rows
+noted_all ws n i m rows e noted =
+    let last : i - 1 ≡ n = omega arith in
+    let all = subst (λ (k : ℕ). NotedTo (left_to ws k) k m rows) last noted in
+    (all.0, all.2)

@@ -30,19 +30,6 @@ pub struct Left {
     pub due: [u32; Desk::PLACES],
 }
 
-// Row i is noted after the first m rows left, where it is left; how many are noted then.
-fn note(rows: &mut [u32; Desk::PLACES], m: usize, i: usize, left: bool) -> usize
-    requires { (m < most_rows) × (i ≤ most_rows) × (length rows.old ≡ row_places) }
-    ensures { (result ≡ cond left (m + 1) m)
-        × (rows.new ≡ cond left (set rows.old (m + 1) i) rows.old) }
-{
-    if left {
-        rows[m + 1] = i as u32;
-        return m + 1;
-    }
-    m
-}
-
 // The numbers of the rows left, from place 1 on; how many they are.
 pub fn numbers_left(desk: &[u32], rows: &mut [u32; Desk::PLACES]) -> usize
     requires { (desk_words ≤ length desk.now) × (count_in desk.now ≤ most_rows) × (rows.old ≡ replicate row_places 0) }
@@ -50,11 +37,12 @@ pub fn numbers_left(desk: &[u32], rows: &mut [u32; Desk::PLACES]) -> usize
         × Filled row_places (from 1) (left_at desk.now) result rows.new }
 {
     let n = desk[Layout::COUNT] as usize;
-    let mut i: usize = 0;
     let mut m: usize = 0;
-    while i < n {
-        i += 1;
-        m = note(rows, m, i, desk[Layout::MARKS + i] == 0);
+    for i in 1..=n {
+        if desk[Layout::MARKS + i] == 0 {
+            m += 1;
+            rows[m] = i as u32;
+        }
     }
     m
 }
@@ -78,11 +66,8 @@ pub fn column_left(
         × ((k : ℕ) → at rows.now k ≤ most_rows) × (column.old ≡ replicate row_places 0) }
     ensures { Filled row_places (from 1) (word_left desk.now before rows.now) n column.new }
 {
-    let mut k: usize = 0;
-    while k < n {
-        k += 1;
-        let row = place_of(rows[k]);
-        column[k] = desk[before + row];
+    for k in 1..=n {
+        column[k] = desk[before + rows[k] as usize];
     }
 }
 
@@ -121,12 +106,12 @@ fn gather(desk: &[u32]) -> Left
     column_left(desk, Layout::DUES, &rows, count, &mut due);
     let ready = can_plan(desk[Layout::MINUTE], &release, &minutes, &due, count);
     Left {
-        ready: ready,
-        count: count,
-        rows: rows,
-        release: release,
-        minutes: minutes,
-        due: due,
+        ready,
+        count,
+        rows,
+        release,
+        minutes,
+        due,
     }
 }
 
