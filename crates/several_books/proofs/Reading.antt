@@ -28,7 +28,7 @@ use Rattle.readers.specs.declared.Given.{Given}
 use Rattle.readers.specs.Reads.{ordering_rule, read_by, outcome_of, Gives}
 use Rattle.readers.proofs.Readings.{given_passed, given_refused}
 use Rattle.listing.specs.declared.Front.{Front}
-use Rattle.listing.specs.Fronts.{pairs_of, held, HoldsPlans}
+use Rattle.listing.specs.Fronts.{pairs_of, HoldsPlans}
 use Rattle.listing.proofs.Fronts.{plans_held}
 use Rattle.outcomes.specs.Planning.{Planning, planning_in}
 use Rattle.outcomes.specs.Plannable.{Plannable}

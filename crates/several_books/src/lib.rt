@@ -37,7 +37,7 @@ fn read_into(
 {
     let terms = Terms {
         profile: Profile::Ordering,
-        opening: opening,
+        opening,
     };
     let given = readers::read(terms, book);
     let outcome = given.outcome;
@@ -86,9 +86,8 @@ pub fn read_desks(
 {
     let mut total: usize = 0;
     let mut at: usize = 0;
-    let mut d: usize = 0;
-    while d < lengths.len() {
-        let next = at + (lengths[d] as usize);
+    for (d, length) in lengths.iter().enumerate() {
+        let next = at + (*length as usize);
         let outcome = read_into(
             opening,
             &books[at..next],
@@ -104,7 +103,6 @@ pub fn read_desks(
         }
         total += rows[d];
         at = next;
-        d += 1;
     }
     AllRead::Rows(total)
 }

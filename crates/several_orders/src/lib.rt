@@ -28,8 +28,7 @@ pub fn write_orders(
         bound desks)) res.old }
 {
     let mut at: usize = 0;
-    let mut d: usize = 0;
-    while d < desks {
+    for d in 0..desks {
         let k = choice::place_within(&fronts[2 * d + 1], 0, plans[d], bound);
         let late = fronts[2 * d + 1][k];
         plans::order_for(
@@ -43,6 +42,5 @@ pub fn write_orders(
             &mut res[at..],
         );
         at += rows[d];
-        d += 1;
     }
 }

@@ -22,8 +22,8 @@ returns c =
 pub returns-then-from-sum : goal.returns-then-from-sum
 returns-then-from-sum c =
     let l = c.loop-late in
-    ends_over c.args.plans.now c.args.fronts.now c.args.closings.now c.args.limit c.requires.2 c.requires.0 l.bound l.best l.invariant.0 _ _
-    (sym c.first_plans.ensures.0 ∙ c.in-Plans.is) (omega (arith, c.from.ensures))
+    ends_over c.args.plans.now c.args.fronts.now c.args.closings.now c.args.limit c.requires.2 c.requires.0 l.bound l.best l.invariant.0
+    _ _ (sym c.first_plans.ensures.0 ∙ c.in-Plans.is) (omega (arith, c.from.ensures))
 
 -- The first plans keep the limit.
 went : (c : Else-from-sum) → Goes c.args.plans.now c.args.fronts.now c.args.closings.now c.args.limit c.requires.2 c.requires.0

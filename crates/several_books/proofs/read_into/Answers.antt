@@ -2,8 +2,6 @@
 -- Assumes nothing.
 use Rattle.readers.proofs.Readings.{given_passed}
 use Rattle.several_books.proofs.Reading.{can_plan_lem, into_refused, into_accepted}
-use Rattle.readers.proofs.Readings.{given_passed}
-use Rattle.several_books.proofs.Reading.{can_plan_lem, into_refused, into_accepted}
 use Rattle.several_books.proofs.read_into.Goals as goal
 
 pub returns-in-Refused : goal.returns-in-Refused
@@ -15,8 +13,9 @@ returns-in-Refused c =
 
 pub list-front-requires : goal.list-front-requires
 list-front-requires c =
-    let p = (let d = given_passed _ c.read-given.result c.read-given.ensures c.in_default.is in
-    can_plan_lem _ _ c.read-given.result d.day d.contents d.free d.count d.columns) in record { limits = p.limits; le_n = (p.low, p.few, p.early, p.rule) }
+    let d = given_passed _ c.read-given.result c.read-given.ensures c.in_default.is in
+    let p = can_plan_lem _ _ c.read-given.result d.day d.contents d.free d.count d.columns in
+    record { limits = p.limits; le_n = (p.low, p.few, p.early, p.rule) }
 
 pub returns : goal.returns
 returns c =
