@@ -29,10 +29,8 @@ fn number_stands(numbers: &[u32; Desk::ROWS], count: usize, number: u32) -> bool
     ensures { result ≡ stands number (take count numbers.now) }
 {
     let mut found = false;
-    let mut i = 0;
-    while i < count {
-        found = found | (number == numbers[i]);
-        i += 1;
+    for n in &numbers[..count] {
+        found = found | (number == *n);
     }
     found
 }
@@ -130,21 +128,17 @@ fn row_of(pace: u32, rest: &[u32]) -> Row
     let number = words::value_of(words::word_at(rest, 0));
     let release = words::value_of(words::word_at(rest, 1));
     let pages = words::value_of(words::word_at(rest, 2));
-    let minutes = length_of(pages, pace);
+    let length = length_of(pages, pace);
     let class = class_of(rest);
-    let due = due_of(
-        class,
-        release,
-        minutes,
-        words::value_of(words::word_at(rest, 3)),
-    );
+    let told = words::value_of(words::word_at(rest, 3));
+    let due = due_of(class, release, length, told);
     Row {
-        number: number,
-        release: release,
-        length: minutes,
-        due: due,
-        class: class,
-        pages: pages,
+        number,
+        release,
+        length,
+        due,
+        class,
+        pages,
     }
 }
 
