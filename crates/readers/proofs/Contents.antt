@@ -1,24 +1,19 @@
 -- Contents that are tested once more: what is accepted passed, and how the tests came out.
 -- Assumes nothing.
-use mathlib.Core.Path.{◌≡◌, refl, sym, ap, ◌∙◌}
+use Rattle.std.specs.Prelude.{Ok}
+use mathlib.Core.Path.{◌≡◌, sym, ap, ◌∙◌}
 use mathlib.Core.List.{List}
 use Rattle.schedule.specs.declared.Row.{Row}
 use Rattle.schedule.specs.Rows.{Day}
-use Rattle.refusals.specs.declared.Tested.{Tested}
-use Rattle.refusals.specs.declared.Tested.TheVariants.{Passed, Refused}
+use Rattle.refusals.specs.Tests.{Tested}
 use Rattle.refusals.proofs.Tests.{never}
 use Rattle.book.specs.Rows.{Contents, refused, accepted, refused_or}
 use Rattle.book.proofs.Whole.{or_tests, or_contents}
-use Rattle.readers.specs.Reads.{tested_by, outcome_of}
+use Rattle.readers.specs.Reads.{tested_by}
 
 -- A day that is accepted is one day.
 pub same_day : {a b : Day} → accepted a ≡ accepted b → a ≡ b
 same_day e = cc
-
--- How a tested day comes out.
-pub or_outcome : (o : Tested) (day : Day) → outcome_of (refused_or o (accepted day)) ≡ o
-or_outcome Passed day = refl
-or_outcome (Refused n p) day = refl
 
 module _ (tests : List Row → Tested) where
   -- What is accepted after one test more was accepted before it, and passes it.
@@ -27,7 +22,7 @@ module _ (tests : List Row → Tested) where
   tested_contents (refused n p) day e = e
   tested_contents (accepted d) day e = or_contents (tests d.rows) (accepted d) e
 
-  pub tested_passed : (x : Contents) (day : Day) → tested_by tests x ≡ accepted day → tests day.rows ≡ Passed
+  pub tested_passed : (x : Contents) (day : Day) → tested_by tests x ≡ accepted day → tests day.rows ≡ Ok tt
   unfolding tested_by
   tested_passed (refused n p) day e = never (cc)
   tested_passed (accepted d) day e = ap (λ (z : Day). tests z.rows) (sym (same_day (or_contents (tests d.rows) (accepted d) e)))

@@ -1,8 +1,8 @@
 -- A book that passed tests 1 to 7 comes out as the test of its rows does.
 -- Assumes nothing.
+use Rattle.std.specs.Prelude.{Ok, Err}
 use mathlib.Core.Path.{◌≡◌, refl}
-use Rattle.refusals.specs.declared.Tested.{Tested}
-use Rattle.refusals.specs.declared.Tested.TheVariants.{Passed, Refused}
+use Rattle.refusals.specs.Tests.{Tested}
 use Rattle.pairs.specs.Pairs.{number_word}
 use Rattle.pairs.specs.Clashes.{PairsSettled}
 use Rattle.pairs.specs.Clashes as pairs
@@ -26,5 +26,5 @@ books_settled profile book day reads =
 
     go : (o : Tested) → rule_tests profile day.rows ≡ o →
         PairsSettled (clash_by profile) (number_by profile) day.rows o → Settled profile book day
-    go Passed e (pairs.unclashing h) = unclashing h (gives Passed e)
-    go (Refused _ _) e (pairs.clashing j k h) = clashing j k h (gives (Refused (number_by profile) (number_word k)) e)
+    go (Ok _) e (pairs.unclashing h) = unclashing h (gives (Ok tt) e)
+    go (Err _) e (pairs.clashing j k h) = clashing j k h (gives (Err (record { number = number_by profile; place = number_word k })) e)

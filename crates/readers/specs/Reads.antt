@@ -1,13 +1,13 @@
 -- What a call reads: the book by what it is told beside it.
 -- Rests on: Rules, the book, the rows in columns.
-use Rattle.std.specs.Prelude.{ℕ, ◌≡◌, List, ltb, length}
+use Rattle.std.specs.Prelude.{ℕ, ◌≡◌, List, ltb, length, Result, Ok, Err}
 use Rattle.schedule.specs.Limits.{most_opening}
 use Rattle.schedule.specs.declared.Row.{Row}
 use Rattle.schedule.specs.declared.Profile.{Profile}
 use Rattle.schedule.specs.declared.Profile.TheVariants.{Ordering, FirstCome}
 use Rattle.schedule.specs.Rows.{Day, jobs}
-use Rattle.refusals.specs.declared.Tested.{Tested}
-use Rattle.refusals.specs.declared.Tested.TheVariants.{Passed, Refused}
+use Rattle.refusals.specs.declared.Refusal.{Refusal}
+use Rattle.refusals.specs.Tests.{Tested}
 use Rattle.refusals.specs.Refusals.{by_range}
 use Rattle.refusals.specs.Tests.{refuse_if}
 use Rattle.book.specs.Rows.{Contents, refused, accepted, refused_or}
@@ -49,17 +49,20 @@ read_by terms book = refused_or (opening_tests terms.opening) (read_for terms.pr
 
 -- How the tests came out.
 abbrev pub outcome_of : Contents → Tested
-outcome_of (refused n p) = Refused n p
-outcome_of (accepted day) = Passed
+outcome_of (refused n p) = Err (record { number = n; place = p })
+outcome_of (accepted day) = Ok tt
 
--- What a reader answers of these contents: how the tests came out; and of an accepted day the free minute, the count of rows, in columns
--- what planning sees of the rows, and their pages.
-pub record Gives (opening : ℕ) (x : Contents) (r : Given) : Type 0 where
-  pub outcome : r.outcome ≡ outcome_of x
-  pub free : (day : Day) → x ≡ accepted day → r.free ≡ day.free
-  pub count : (day : Day) → x ≡ accepted day → r.count ≡ length day.rows
-  pub columns : (day : Day) → x ≡ accepted day → InColumns (jobs opening day) (length day.rows) r.columns
-  pub pages : (day : Day) → x ≡ accepted day → Column (λ row. row.pages) r.columns.pages day.rows
+-- What a reader gives of an accepted day: the free minute, the count of rows, in columns what planning sees of the rows, and their pages.
+pub record GivesDay (opening : ℕ) (day : Day) (given : Given) : Type 0 where
+  pub free : given.free ≡ day.free
+  pub count : given.count ≡ length day.rows
+  pub columns : InColumns (jobs opening day) (length day.rows) given.columns
+  pub pages : Column (λ row. row.pages) given.columns.pages day.rows
+
+-- What a reader answers of these contents: the refusal, or what it gives of the day.
+abbrev pub Gives : (opening : ℕ) → Contents → Result Given Refusal → Type 0
+Gives opening (refused n p) r = r ≡ Err (record { number = n; place = p })
+Gives opening (accepted day) r = (given : Given) × (r ≡ Ok given) × GivesDay opening day given
 
 -- Opens every definition of this file and of those that it rests on: name it on an `unfolding` line where all is to be computed.
 unfoldable pub open_reads : Unit {0}

@@ -7,7 +7,7 @@ use Rattle.schedule.specs.declared.Row.{Row}
 use Rattle.schedule.specs.declared.Profile.{Profile}
 use Rattle.schedule.specs.declared.Profile.TheVariants.{Ordering, FirstCome}
 use Rattle.schedule.specs.Rows.{job}
-use Rattle.refusals.specs.declared.Tested.{Tested}
+use Rattle.refusals.specs.Tests.{Tested}
 use Rattle.readers.specs.Rules.{rule_tests}
 
 -- The second number that the rows are compared by, beside the due: the spare, raised by the most that release and time at the desk come to,

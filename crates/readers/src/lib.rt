@@ -10,7 +10,7 @@ ghost use Rattle.readers.specs.Seconds.{second_by, JobsTested};
 ghost use Rattle.readers.specs.Times.{Timed};
 ghost use Rattle.readers.specs.Reads.{read_by, Gives};
 
-use refusals::Tested;
+use refusals::Refusal;
 use rows::Columns;
 use schedule::{Desk, Profile};
 
@@ -24,11 +24,10 @@ pub struct Terms {
     pub opening: u32,
 }
 
-// What a book gives by the terms: how the tests came out; of an accepted book also the free minute, the count of rows, and in
-// columns what planning sees of the rows, and their pages.
+// What an accepted book gives by the terms: the free minute, the count of rows, and in columns what planning sees of the rows, and their
+// pages.
 #[derive(Drop)]
 pub struct Given {
-    pub outcome: Tested,
     pub free: u32,
     pub count: usize,
     pub columns: Columns,
@@ -39,8 +38,8 @@ fn number_of(profile: Profile) -> u32
     ensures { result ≡ number_by profile }
 {
     match profile {
-        Profile::Ordering => Tested::DISORDER,
-        Profile::FirstCome => Tested::CROSSED,
+        Profile::Ordering => Refusal::DISORDER,
+        Profile::FirstCome => Refusal::CROSSED,
     }
 }
 
@@ -63,7 +62,7 @@ pub fn rule_tests<'a>(
     minutes: &'a [u32; Desk::PLACES],
     due: &'a [u32; Desk::PLACES],
     count: usize,
-) -> Tested
+) -> Result<(), Refusal>
     requires { (count ≤ most_rows)
         × (length release.now ≡ row_places) × (length minutes.now ≡ row_places) × (length due.now ≡ row_places)
         × ((i : ℕ) → Within latest_minute longest_time latest_due (columns release.now minutes.now due.now i)) }
@@ -91,52 +90,34 @@ fn add_opening(opening: u32, minutes: &mut [u32; Desk::PLACES], n: usize)
     }
 }
 
-// What a book gives by terms whose opening is in its range: tests 1 to 7, then the rule of the profile, which counts no opening. (A book
-// that is refused before has no rows to test.)
-fn read_told(terms: Terms, book: &[u32]) -> Given
+// What a book gives by terms whose opening is in its range: tests 1 to 7, then the rule of the profile, which counts no opening.
+fn read_told(terms: Terms, book: &[u32]) -> Result<Given, Refusal>
     requires { terms.opening ≤ most_opening }
     ensures { Gives terms.opening (read_by terms book.now) result }
 {
-    let all = book::read_words(book);
-    let words = all.outcome;
-    let free = all.table.free;
-    let count = all.table.count;
-    let mut columns = rows::columns_in(all.table);
-    let profile = terms.profile;
-    let rule = rule_tests(
-        profile,
+    let table = book::read_words(book)?;
+    let free = table.free;
+    let count = table.count;
+    let mut columns = rows::columns_in(table);
+    rule_tests(
+        terms.profile,
         &columns.release,
         &columns.length,
         &columns.due,
         count,
-    );
-    let outcome = refusals::then(words, rule);
+    )?;
     add_opening(terms.opening, &mut columns.length, count);
-    Given {
-        outcome: outcome,
-        free: free,
-        count: count,
-        columns: columns,
-    }
+    Ok(Given {
+        free,
+        count,
+        columns,
+    })
 }
 
 // What a book gives by the terms: the opening is tested before the book is looked at.
-pub fn read(terms: Terms, book: &[u32]) -> Given
+pub fn read(terms: Terms, book: &[u32]) -> Result<Given, Refusal>
     ensures { Gives terms.opening (read_by terms book.now) result }
 {
-    if terms.opening <= Desk::OPENING {
-        return read_told(terms, book);
-    }
-    let none: [u32; Desk::PLACES] = [0; Desk::PLACES];
-    Given {
-        outcome: Tested::Refused(Tested::RANGE, 0),
-        free: 0,
-        count: 0,
-        columns: Columns {
-            release: none,
-            length: none,
-            due: none,
-            pages: none,
-        },
-    }
+    refusals::refuse_if(Desk::OPENING < terms.opening, Refusal::RANGE, 0)?;
+    read_told(terms, book)
 }

@@ -1,7 +1,7 @@
 -- `add_opening` meets its contract: rows 1 to i have their times.
 -- Assumes nothing.
 use Rattle.schedule.proofs.Filling.{at_end}
-use Prim.Native.Nat.{ℕ, ◌+◌, ◌-◌, ◌≤◌}
+use Prim.Native.Nat.{ℕ, ◌+◌}
 use native.Mathlib.Omega.{arith}
 use Rattle.readers.specs.Times.{Timed}
 use Rattle.readers.proofs.Timing.{timed_none, timed_on}

@@ -1,6 +1,6 @@
 -- `add_opening` meets its contract: rows 1 to i have their times.
 -- Assumes nothing.
-use Prim.Native.Nat.{◌+◌, ◌-◌, ◌≤◌}
+use Prim.Native.Nat.{◌-◌, ◌≤◌}
 use Rattle.readers.specs.Times.{Timed}
 use Rattle.readers.proofs.add_opening.Given as goal
 

@@ -1,6 +1,6 @@
 -- `rule_tests` meets its contract: the column holds the second numbers of the rows, and the pair test of the columns is that of the rows.
 -- Assumes nothing.
-use Prim.Native.Nat.{◌≤◌, ◌+◌, ◌-◌}
+use Prim.Native.Nat.{◌+◌}
 use native.Mathlib.Omega.{arith}
 use mathlib.Core.Path.{◌≡◌}
 use borrow.Author.Rules.{rules}

@@ -1,7 +1,6 @@
 -- `rule_tests` meets its contract: the column holds the second numbers of the rows, and the pair test of the columns is that of the rows.
 -- Assumes nothing.
-use Prim.Native.Nat.{◌≤◌, ◌+◌, ◌-◌}
-use mathlib.Core.Path.{◌≡◌}
+use Prim.Native.Nat.{◌≤◌, ◌-◌}
 use Rattle.schedule.specs.Columns.{columns}
 use Rattle.readers.proofs.Seconds.{Held}
 use Rattle.readers.proofs.rule_tests.Given as goal
