@@ -1,5 +1,6 @@
 -- The table that the reader makes of a book. Only contracts cite it.
 -- Rests on: Rows.
+use Rattle.refusals.specs.Tests.{refusal_at}
 use Rattle.std.specs.Prelude.{◌-◌, List, ◌++◌, length, take, replicate, Result, Ok, Err}
 use Rattle.schedule.specs.Limits.{most_rows}
 use Rattle.schedule.specs.declared.Row.{Row}
@@ -17,5 +18,5 @@ table_rows t = take t.count t.rows
 
 -- What the reader answers: the table, or the refusal.
 unfoldable pub reading_of : Contents → Result Table Refusal
-reading_of (refused n p) = Err (record { number = n; place = p })
+reading_of (refused n p) = Err (refusal_at n p)
 reading_of (accepted day) = Ok (table_of day)

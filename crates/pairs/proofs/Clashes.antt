@@ -14,7 +14,7 @@ use Rattle.schedule.specs.declared.Row.{Row}
 use Rattle.schedule.specs.Rows.{no_row, row}
 use Rattle.schedule.proofs.Numbers.{count_range, from_mem}
 use Rattle.schedule.proofs.Tests.{neither}
-use Rattle.refusals.specs.Tests.{Tested}
+use Rattle.refusals.specs.Tests.{Tested, refusal_at}
 use Rattle.refusals.proofs.Tests.{never}
 use Rattle.pairs.specs.Pairs.{some_entry, pair_tests}
 use Rattle.pairs.specs.Clashes.{Mutual, NoneClash, Earliest, PairsSettled, PairsSettle, unclashing, clashing}
@@ -52,7 +52,7 @@ module _ {clash : Row → Row → Bool} (ways : Mutual clash) (number : ℕ) (rs
   data Tried : Tested → Type 0 where
     passed : NoClashBefore (length rs) → Tried (Ok tt)
     stopped : (a b : ℕ) → a < b → b < length rs → clash (get_or rs b no_row) (get_or rs a no_row) ≡ true → NoClashBefore b →
-        Tried (Err (record { number = number; place = 4 * b + 2 }))
+        Tried (Err (refusal_at number (4 * b + 2)))
 
   -- One row more that clashes with none above it.
   no_clash_on : (i : ℕ) → i < length rs → NoClashBefore i → some_entry (clash (get_or rs i no_row)) (take i rs) ≡ false → NoClashBefore (suc i)
@@ -118,7 +118,7 @@ module _ {clash : Row → Row → Bool} (ways : Mutual clash) (number : ℕ) (rs
   tried_settled (Ok _) (passed h) = unclashing (none_clash h)
   tried_settled (Err _) (stopped a b p q e h) =
       let same : b ≡ suc b - 1 = omega arith in
-      subst (λ (k : ℕ). PairsSettled clash number rs (Err (record { number = number; place = 4 * k + 2 }))) (sym same)
+      subst (λ (k : ℕ). PairsSettled clash number rs (Err (refusal_at number (4 * k + 2)))) (sym same)
       (clashing (suc a) (suc b) (earliest a b p q e h))
 
 pub pairs_settled : PairsSettle

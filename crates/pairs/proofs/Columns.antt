@@ -1,5 +1,6 @@
 -- The columns of a test of row pairs: what they say of a row is what the rows above it do.
 -- Assumes nothing.
+use Rattle.refusals.specs.Tests.{refusal_at}
 use Rattle.std.specs.Prelude.{Ok, Err}
 use Prim.Native.Nat.{ℕ, zero, suc, ◌+◌, ◌-◌, ◌≤◌, ◌<◌}
 use native.Mathlib.Omega.{arith}
@@ -94,7 +95,7 @@ module _ (dues seconds : List ℕ) (count number : ℕ) where
       ∙ rw next (pairs_on clash number rows i l (sym (above_some clash rows dues seconds c i l i (omega arith)) ∙ rw same at e))
 
   pub scan_here : (i : ℕ) → 1 ≤ i → i ≤ count → any_clashes dues seconds i (i - 1) ≡ true → ScanAt i →
-      ColumnsTested dues seconds count number (Err (record { number = number; place = number_word i }))
+      ColumnsTested dues seconds count number (Err (refusal_at number (number_word i)))
   scan_here zero one h e s = let x : ⊥ = omega arith in absurd x
   scan_here (suc i) one h e s = λ clash rows n c.
       let l : i < length rows = omega arith in

@@ -10,7 +10,7 @@ use lib.ListN.{length, take, drop, get_or, drop_of_length-le}
 use lib.Seq.{take-suc, drop-cons}
 use Rattle.schedule.specs.declared.Row.{Row}
 use Rattle.schedule.specs.Rows.{no_row}
-use Rattle.refusals.specs.Tests.{Tested}
+use Rattle.refusals.specs.Tests.{Tested, refusal_at}
 use Rattle.refusals.specs.Tests.{refuse_if, ◌then◌}
 use Rattle.pairs.specs.Pairs.{some_entry, pair_tests_from}
 
@@ -30,7 +30,7 @@ module _ (clash : Row → Row → Bool) (number : ℕ) (rs : List Row) where
   pairs_at i = pair_tests_from clash number (4 * i + 2) (take i rs) (drop i rs)
 
   -- The row clashes with a row above it; with none; no row is left.
-  pub pairs_here : (i : ℕ) → i < length rs → some_entry (clash (get_or rs i no_row)) (take i rs) ≡ true → pairs_at i ≡ Err (record { number = number; place = 4 * i + 2 })
+  pub pairs_here : (i : ℕ) → i < length rs → some_entry (clash (get_or rs i no_row)) (take i rs) ≡ true → pairs_at i ≡ Err (refusal_at number (4 * i + 2))
   unfolding pair_tests_from refuse_if ◌then◌
   pairs_here i h e = rw (drop-cons rs i no_row h, e)
 

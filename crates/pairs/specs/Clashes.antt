@@ -4,7 +4,7 @@ use Rattle.std.specs.Prelude.{ℕ, ◌≤◌, ◌<◌, Bool, true, false, ◌≡
 use mathlib.Core.List.{List, Memᴰ}
 use Rattle.schedule.specs.declared.Row.{Row}
 use Rattle.schedule.specs.Rows.{row, all_rows}
-use Rattle.refusals.specs.Tests.{Tested}
+use Rattle.refusals.specs.Tests.{Tested, refusal_at}
 use Rattle.pairs.specs.Pairs.{number_word, pair_tests}
 
 -- A clash goes both ways, and no row clashes with itself.
@@ -25,7 +25,7 @@ pub record Earliest (clash : Row → Row → Bool) (rows : List Row) (j k : ℕ)
 -- Either no two rows clash, and the test is passed; or there is such a row k, and the refusal has the test's number at k's number word.
 pub data PairsSettled (clash : Row → Row → Bool) (number : ℕ) (rows : List Row) : Tested → Type 0 where
   unclashing : NoneClash clash rows → PairsSettled clash number rows (Ok tt)
-  clashing : (j k : ℕ) → Earliest clash rows j k → PairsSettled clash number rows (Err (record { number = number; place = number_word k }))
+  clashing : (j k : ℕ) → Earliest clash rows j k → PairsSettled clash number rows (Err (refusal_at number (number_word k)))
 
 -- So the test of any clash of two rows comes out.
 abbrev pub PairsSettle : Type 0

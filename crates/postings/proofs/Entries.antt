@@ -17,7 +17,7 @@ use Rattle.schedule.specs.Rows.{stands}
 use Rattle.schedule.proofs.Tests.{neither}
 use Rattle.schedule.proofs.Stands.{stands_none, stands_more}
 use Rattle.refusals.specs.Refusals.{by_not_posting}
-use Rattle.refusals.specs.Tests.{refuse_if, ◌then◌}
+use Rattle.refusals.specs.Tests.{refuse_if, ◌then◌, refusal_at}
 use Rattle.postings.specs.Posting.{entry_tests, posting_tests}
 
 -- The marks are those of the entries seen.
@@ -53,7 +53,7 @@ module _ (n : ℕ) (posting s : List ℕ) (k : ℕ) (h : k < length posting) whe
   entry_step = rw (add-one k) (ap (entry_tests n s k) (drop-cons posting k 0 h) ∙ rw (add-one k) refl)
 
   pub entry_stray : (eqb (get_or posting k 0) 0 || ltb n (get_or posting k 0) || stands (get_or posting k 0) s) ≡ true →
-      entry_tests n s k (drop k posting) ≡ Err (record { number = by_not_posting; place = k })
+      entry_tests n s k (drop k posting) ≡ Err (refusal_at by_not_posting k)
   unfolding refuse_if ◌then◌
   entry_stray e = entry_step ∙ rw e refl
 
@@ -68,14 +68,14 @@ entries_end n posting s k e = ap (entry_tests n s k) (ap (λ (m : ℕ). drop m p
 
 -- The length of a posting.
 pub posting_uneven : (n : ℕ) (posting : List ℕ) (m : ℕ) → (length posting ≡ n → ⊥) → m ≡ min (length posting) n →
-    Err (record { number = by_not_posting; place = m }) ≡ posting_tests n posting
+    Err (refusal_at by_not_posting m) ≡ posting_tests n posting
 unfolding posting_tests refuse_if ◌then◌
 posting_uneven n posting m d e = rw (ne_eqb (length posting) n d, e) refl
 
-pub posting_short : (n : ℕ) (posting : List ℕ) → length posting < n → Err (record { number = by_not_posting; place = length posting }) ≡ posting_tests n posting
+pub posting_short : (n : ℕ) (posting : List ℕ) → length posting < n → Err (refusal_at by_not_posting (length posting)) ≡ posting_tests n posting
 posting_short n posting h = posting_uneven n posting (length posting) (λ e. omega arith) (omega arith)
 
-pub posting_long : (n : ℕ) (posting : List ℕ) → n < length posting → Err (record { number = by_not_posting; place = n }) ≡ posting_tests n posting
+pub posting_long : (n : ℕ) (posting : List ℕ) → n < length posting → Err (refusal_at by_not_posting n) ≡ posting_tests n posting
 posting_long n posting h = posting_uneven n posting n (λ e. omega arith) (omega arith)
 
 pub posting_even : (n : ℕ) (posting : List ℕ) → length posting ≡ n → entry_tests n [] 0 posting ≡ posting_tests n posting

@@ -9,7 +9,7 @@ use lib.ListN.{length}
 use lib.Dec.{ltb}
 use borrow.Author.Tests.{ltb-false}
 use Rattle.refusals.specs.Refusals.{by_range}
-use Rattle.refusals.specs.Tests.{refuse_if}
+use Rattle.refusals.specs.Tests.{refuse_if, refusal_at}
 use Rattle.schedule.specs.declared.Row.{Row}
 use Rattle.schedule.specs.Limits.{most_opening}
 use Rattle.schedule.specs.Rows.{job, with_opening, Day, jobs}
@@ -130,5 +130,5 @@ given_passed opening (accepted day) r g (given, is, told) e =
 
 pub given_refused : (opening : ℕ) (x : Contents) (r : Result Given Refusal) (refusal : Refusal) → Gives opening x r → r ≡ Err refusal →
     x ≡ refused refusal.number refusal.place
-given_refused opening (refused m q) r refusal g e = let same : record { number = m; place = q } ≡ refusal = cc in rw (← same) refl
+given_refused opening (refused m q) r refusal g e = let same : refusal_at m q ≡ refusal = cc in rw (← same) refl
 given_refused opening (accepted day) r refusal (given, is, told) e = never (cc)

@@ -2,7 +2,7 @@
 -- Assumes nothing.
 use Rattle.std.specs.Prelude.{Ok, Err}
 use mathlib.Core.Path.{◌≡◌, refl}
-use Rattle.refusals.specs.Tests.{Tested}
+use Rattle.refusals.specs.Tests.{Tested, refusal_at}
 use Rattle.pairs.specs.Pairs.{number_word}
 use Rattle.pairs.specs.Clashes.{PairsSettled}
 use Rattle.pairs.specs.Clashes as pairs
@@ -27,4 +27,4 @@ books_settled profile book day reads =
     go : (o : Tested) → rule_tests profile day.rows ≡ o →
         PairsSettled (clash_by profile) (number_by profile) day.rows o → Settled profile book day
     go (Ok _) e (pairs.unclashing h) = unclashing h (gives (Ok tt) e)
-    go (Err _) e (pairs.clashing j k h) = clashing j k h (gives (Err (record { number = number_by profile; place = number_word k })) e)
+    go (Err _) e (pairs.clashing j k h) = clashing j k h (gives (Err (refusal_at (number_by profile) (number_word k))) e)

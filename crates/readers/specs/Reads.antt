@@ -7,7 +7,7 @@ use Rattle.schedule.specs.declared.Profile.{Profile}
 use Rattle.schedule.specs.declared.Profile.TheVariants.{Ordering, FirstCome}
 use Rattle.schedule.specs.Rows.{Day, jobs}
 use Rattle.refusals.specs.declared.Refusal.{Refusal}
-use Rattle.refusals.specs.Tests.{Tested}
+use Rattle.refusals.specs.Tests.{Tested, refusal_at}
 use Rattle.refusals.specs.Refusals.{by_range}
 use Rattle.refusals.specs.Tests.{refuse_if}
 use Rattle.book.specs.Rows.{Contents, refused, accepted, refused_or}
@@ -49,7 +49,7 @@ read_by terms book = refused_or (opening_tests terms.opening) (read_for terms.pr
 
 -- How the tests came out.
 abbrev pub outcome_of : Contents → Tested
-outcome_of (refused n p) = Err (record { number = n; place = p })
+outcome_of (refused n p) = Err (refusal_at n p)
 outcome_of (accepted day) = Ok tt
 
 -- What a reader gives of an accepted day: the free minute, the count of rows, in columns what planning sees of the rows, and their pages.
@@ -61,7 +61,7 @@ pub record GivesDay (opening : ℕ) (day : Day) (given : Given) : Type 0 where
 
 -- What a reader answers of these contents: the refusal, or what it gives of the day.
 abbrev pub Gives : (opening : ℕ) → Contents → Result Given Refusal → Type 0
-Gives opening (refused n p) r = r ≡ Err (record { number = n; place = p })
+Gives opening (refused n p) r = r ≡ Err (refusal_at n p)
 Gives opening (accepted day) r = (given : Given) × (r ≡ Ok given) × GivesDay opening day given
 
 -- Opens every definition of this file and of those that it rests on: name it on an `unfolding` line where all is to be computed.

@@ -7,9 +7,13 @@ use Rattle.refusals.specs.declared.Refusal.{Refusal}
 abbrev pub Tested : Type 0
 Tested = Result (Unit {0}) Refusal
 
+-- The refusal with this number at this place.
+abbrev pub refusal_at : (number place : ℕ) → Refusal
+refusal_at number place = record { number = number; place = place }
+
 -- One test: where it is true, the refusal with its number and its place.
 unfoldable pub refuse_if : Bool → ℕ → ℕ → Tested
-refuse_if true number place = Err (record { number = number; place = place })
+refuse_if true number place = Err (refusal_at number place)
 refuse_if false number place = Ok tt
 
 -- Tests in sequence: the first refusal turns the call down.

@@ -6,25 +6,18 @@ ghost use Rattle.row_calls.specs.Places.{place_call, row_words_at, words_call};
 ghost use Rattle.row_calls.specs.Cited.{WordsInside, PlaceAmong};
 
 use readers::Terms;
-use refusals::Tested;
+use refusals::Refusal;
 use schedule::Profile;
 
-// The place of a row's number word, or the refusal.
-#[derive(Clone, Copy)]
-pub enum RowPlace {
-    At(usize),
-    Refused(u32, usize),
-}
-
-// Where a row stands, from how the tests came out and the count of rows.
-fn place_among(outcome: Tested, count: usize, row: u32) -> RowPlace
-    ensures { PlaceAmong outcome count row result }
+// The place of a row's number word among so many rows, counted from 1.
+fn place_among(count: usize, row: u32) -> Result<usize, Refusal>
+    ensures { PlaceAmong count row result }
 {
-    if let Tested::Refused(n, p) = outcome {
-        return RowPlace::Refused(n, p);
-    }
     let k = row as usize;
-    let unlisted = RowPlace::Refused(Tested::UNLISTED, count);
+    let unlisted = Err(Refusal {
+        number: Refusal::UNLISTED,
+        place: count,
+    });
     if k == 0 {
         return unlisted;
     }
@@ -32,33 +25,32 @@ fn place_among(outcome: Tested, count: usize, row: u32) -> RowPlace
         return unlisted;
     }
     let place = 4 * (k - 1) + 2;
-    RowPlace::At(place)
+    Ok(place)
 }
 
 // The place of a row's number word, rows counted from 1, or the refusal. It works out no ends, and is told no opening.
-pub fn row_place(profile: Profile, book: &[u32], row: u32) -> RowPlace
+pub fn row_place(profile: Profile, book: &[u32], row: u32) -> Result<usize, Refusal>
     ensures { result ≡ place_call profile book.now row }
 {
     let terms = Terms {
-        profile: profile,
+        profile,
         opening: 0,
     };
-    let given = readers::read(terms, book);
-    let outcome = given.outcome;
-    place_among(outcome, given.count, row)
+    let given = readers::read(terms, book)?;
+    place_among(given.count, row)
 }
 
 // The four words of a row that was looked for, where it was found.
-fn words_at<'a>(book: &'a [u32], found: RowPlace) -> &'a [u32]
+fn words_at<'a>(book: &'a [u32], found: Result<usize, Refusal>) -> &'a [u32]
     requires { WordsInside found book.now }
     ensures { result.now ≡ row_words_at found book.now }
 {
     match found {
-        RowPlace::At(start) => {
+        Ok(start) => {
             let end = start + 4;
             &book[start..end]
         }
-        RowPlace::Refused(_, _) => &book[0..0],
+        Err(_) => &book[0..0],
     }
 }
 

@@ -1,8 +1,7 @@
 -- `row_words` meets its contract: the words at the row's place, which lies inside the book.
 -- Assumes nothing.
 use mathlib.Core.Path.{ap, ◌∙◌}
-use Rattle.row_calls.specs.declared.RowPlace.{RowPlace}
-use Rattle.row_calls.specs.Places.{row_words_at}
+use Rattle.row_calls.specs.Places.{RowPlace, row_words_at}
 use Rattle.row_calls.proofs.Places.{inside}
 use Rattle.row_calls.proofs.row_words.Goals as goal
 

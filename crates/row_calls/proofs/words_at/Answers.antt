@@ -7,22 +7,20 @@ use Rattle.row_calls.proofs.Places.{words_found, words_refused}
 use Rattle.row_calls.proofs.words_at.Goals as goal
 
 pub overflow_add-end : goal.overflow_add-end
-overflow_add-end c = omega (arith, (c.requires c.in-At.start c.in-At.is))
+overflow_add-end c = omega (arith, (c.requires c.in-Ok.start c.in-Ok.is))
 
 pub offset_bounds-book-start : goal.offset_bounds-book-start
-offset_bounds-book-start c = omega (arith, (c.requires c.in-At.start c.in-At.is))
+offset_bounds-book-start c = omega (arith, (c.requires c.in-Ok.start c.in-Ok.is))
 
 pub slice_bounds-result-end : goal.slice_bounds-result-end
-slice_bounds-result-end c = omega (arith, (c.requires c.in-At.start c.in-At.is))
+slice_bounds-result-end c = omega (arith, (c.requires c.in-Ok.start c.in-Ok.is))
 
-pub returns-in-At : goal.returns-in-At
-returns-in-At c =
+pub returns-in-Ok : goal.returns-in-Ok
+returns-in-Ok c =
     let s = c.args in
-    let a = c.in-At.start in
+    let a = c.in-Ok.start in
     let four : a + 4 - a ≡ 4 = omega arith in
-    rw four (words_found s.book.now s.found a c.in-At.is)
+    rw four (words_found s.book.now s.found a c.in-Ok.is)
 
-pub returns-in-Refused : goal.returns-in-Refused
-returns-in-Refused c =
-    let s = c.args in
-    words_refused s.book.now s.found c.in-Refused.field-0 c.in-Refused.field-1 c.in-Refused.is
+pub returns-in-Err : goal.returns-in-Err
+returns-in-Err c = let s = c.args in words_refused s.book.now s.found c.in-Err.field-0 c.in-Err.is
