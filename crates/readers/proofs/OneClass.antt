@@ -8,7 +8,7 @@ use mathlib.Core.List.{Memᴰ}
 use lib.Dec.{ltb}
 use borrow.Author.Tests.{le-ltb}
 use Rattle.schedule.specs.declared.Row.{Row}
-use Rattle.schedule.specs.declared.Class.TheVariants.{Of}
+use Rattle.std.specs.Prelude.{Some}
 use Rattle.schedule.specs.declared.Profile.TheVariants.{Ordering}
 use Rattle.schedule.specs.Rows.{row, row_numbers}
 use Rattle.refusals.specs.declared.Tested.TheVariants.{Passed}
@@ -29,7 +29,7 @@ and_false true = refl
 and_false false = refl
 
 -- Of two rows of one class neither has the smaller spare.
-module _ (c : ℕ) (r s : Row) (f : ClassDue r) (g : ClassDue s) (e : r.class ≡ Of c) (h : s.class ≡ Of c) where
+module _ (c : ℕ) (r s : Row) (f : ClassDue r) (g : ClassDue s) (e : r.class ≡ Some c) (h : s.class ≡ Some c) where
   not_tighter : tighter r s ≡ false
   unfolding tighter
   not_tighter =
@@ -39,7 +39,7 @@ module _ (c : ℕ) (r s : Row) (f : ClassDue r) (g : ClassDue s) (e : r.class �
       )
       (and_false (ltb r.due s.due))
 
-class_agrees : (c : ℕ) (r s : Row) → ClassDue r → ClassDue s → r.class ≡ Of c → s.class ≡ Of c → clash_by Ordering r s ≡ false
+class_agrees : (c : ℕ) (r s : Row) → ClassDue r → ClassDue s → r.class ≡ Some c → s.class ≡ Some c → clash_by Ordering r s ≡ false
 unfolding clash_by disagree
 class_agrees c r s f g e h = rw (not_tighter c r s f g e h, not_tighter c s r g f h e)
 
