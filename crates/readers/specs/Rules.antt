@@ -1,6 +1,6 @@
 -- The rule of each profile as a test of row pairs: test 8, no two rows disagree; test 13, no two rows cross.
 -- Rests on: the pairs, the schedule's rows and profiles.
-use Rattle.std.specs.Prelude.{ℕ, ◌+◌, ◌-◌, Bool, ◌&&◌, ◌||◌, List, ltb, length, ℤ}
+use Rattle.std.specs.Prelude.{ℕ, ◌+◌, Bool, ◌&&◌, ◌||◌, List, ltb, ℤ}
 use Rattle.std.proofs.Math.IntN.{sub_ℕ}
 use Rattle.std.specs.Int.Signed.{lt_z}
 use Rattle.schedule.specs.declared.Row.{Row}

@@ -6,7 +6,7 @@ use native.Mathlib.Decide.{ℕ_discrete, dec_lt}
 use native.Mathlib.Numerals.{add-one}
 use mathlib.Core.Path.{◌≡◌, refl, sym, ap, ◌∙◌, subst}
 use mathlib.Core.List.{List, [], ◌∷◌}
-use lib.ListN.{length, take, get_or, set, length-set, replicate, length-replicate}
+use lib.ListN.{take, get_or, set, length-set, replicate, length-replicate}
 use lib.Seq.{get_or-set_same, get_or-set_other, get_or-take}
 use Rattle.schedule.specs.Limits.{most_rows, row_places}
 use Rattle.schedule.specs.declared.Row.{Row}

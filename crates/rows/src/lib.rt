@@ -2,9 +2,8 @@
 // The functions over `&[Row]` are few and thin. Callers use `columns_in`, whose parameters are plain.
 #![tactic(auto)]
 
-ghost use Rattle.std.specs.Prelude.{◌≡◌, ◌≤◌, ◌<◌, length, get_or};
+ghost use Rattle.std.specs.Prelude.{◌≡◌, ◌≤◌, length};
 ghost use Rattle.schedule.specs.Limits.{most_rows};
-ghost use Rattle.schedule.specs.Rows.{no_row};
 ghost use Rattle.book.specs.Tables.{table_rows};
 ghost use Rattle.rows.specs.InColumns.{RowsInColumns};
 
@@ -25,33 +24,7 @@ fn accepted_rows<'a>(table: &'a Table) -> &'a [Row]
     requires { table.now.count ≤ most_rows }
     ensures { result.now ≡ table_rows table.now }
 {
-    let count = table.count;
-    &table.rows[..count]
-}
-
-// One row, by its place.
-fn row_at(rows: &[Row], i: usize) -> Row
-    requires { i < length rows.now }
-    ensures { result ≡ get_or rows.now i no_row }
-{
-    rows[i]
-}
-
-// Four columns as one.
-fn joined(
-    release: [u32; Desk::PLACES],
-    minutes: [u32; Desk::PLACES],
-    due: [u32; Desk::PLACES],
-    pages: [u32; Desk::PLACES],
-) -> Columns
-    ensures { result ≡ record { release = release; length = minutes; due = due; pages = pages } }
-{
-    Columns {
-        release: release,
-        length: minutes,
-        due: due,
-        pages: pages,
-    }
+    &table.rows[..table.count]
 }
 
 // All the rows, each at its number.
@@ -59,20 +32,20 @@ fn columns_of(rows: &[Row]) -> Columns
     requires { length rows.now ≤ most_rows }
     ensures { RowsInColumns rows.now result }
 {
-    let mut release = [0; Desk::PLACES];
-    let mut minutes = [0; Desk::PLACES];
-    let mut due = [0; Desk::PLACES];
-    let mut pages = [0; Desk::PLACES];
-    let mut i: usize = 0;
-    while i < rows.len() {
-        let row = row_at(rows, i);
-        i += 1;
-        release[i] = row.release;
-        minutes[i] = row.length;
-        due[i] = row.due;
-        pages[i] = row.pages;
+    let mut columns = Columns {
+        release: [0; Desk::PLACES],
+        length: [0; Desk::PLACES],
+        due: [0; Desk::PLACES],
+        pages: [0; Desk::PLACES],
+    };
+    for (i, row) in rows.iter().enumerate() {
+        let number = i + 1;
+        columns.release[number] = row.release;
+        columns.length[number] = row.length;
+        columns.due[number] = row.due;
+        columns.pages[number] = row.pages;
     }
-    joined(release, minutes, due, pages)
+    columns
 }
 
 // The accepted rows of a table, in columns. Once a call, so that picks read plain numbers.
