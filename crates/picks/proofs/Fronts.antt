@@ -1,17 +1,18 @@
 -- The picks of a desk in planning: the least row of the set, or else the next row ahead, or else none.
 -- Assumes nothing.
-use Prim.Native.Nat.{ℕ, ◌+◌, ◌≤◌, ◌<◌, compare, Ordering}
+use Prim.Native.Nat.{ℕ, ◌+◌, ◌*◌, ◌≤◌, ◌<◌, compare, Ordering}
 use native.Mathlib.Omega.{arith}
 use mathlib.Core.Bool.{Bool, true, false}
 use mathlib.Core.Path.{◌≡◌, refl, sym, ap, ◌∙◌, subst}
 use mathlib.Core.List.{List, [], ◌∷◌, Memᴰ}
+use lib.ListN.{get_or}
 use mathlib.Core.Logic.{◌⊎◌, inl, inr}
 use Rattle.theory.specs.Jobs.{Job}
 use Rattle.schedule.specs.Rows.{without}
 use Rattle.schedule.specs.Picks.{first_pick, others, second_pick}
 use Rattle.schedule.proofs.Tests.{false_is_true, Compared, compared}
 use Rattle.schedule.proofs.PickLaws.{Ahead, ahead_refl}
-use Rattle.picks.specs.Bits.{mark, Words, Least}
+use Rattle.picks.specs.Bits.{mark, word, Words, Least}
 use Rattle.picks.specs.Standing.{Tables, Stands, Late}
 use Rattle.picks.proofs.Sets.{away_words}
 use Rattle.picks.proofs.Firsts.{pick_is, sooner, ranked, second_is}
@@ -20,6 +21,11 @@ use Rattle.picks.proofs.Standings.{no_zero, stands_away, stands_next}
 -- What `lowest`, `next_after` and `front` ensure.
 abbrev pub Lowest : List ℕ → ℕ → Type 0
 Lowest ws i = (p : ℕ → Bool) → Words p ws → p 0 ≡ false → Least p i
+
+-- `lowest` from the first word on.
+pub found : {ws : List ℕ} {i : ℕ} → ((p : ℕ → Bool) → ((q : ℕ) → 0 ≤ q → q < 5 → get_or ws q 0 ≡ word p (64 * q) 64) →
+    ((j : ℕ) → j < 64 * 0 → p j ≡ false) → p 0 ≡ false → Least p i) → Lowest ws i
+found f p s e = f p (λ q h g. s.each q g) (λ j h. let z : ⊥ = omega arith in absurd z) e
 
 abbrev pub NextAfter : List ℕ → (i j : ℕ) → Type 0
 NextAfter ws i j = (p : ℕ → Bool) → Words p ws → p 0 ≡ false → p i ≡ true → ((k : ℕ) → k < i → p k ≡ false) → Least (mark i false p) j

@@ -125,26 +125,25 @@ module _ {p : ℕ → Bool} (q : ℕ) (before : Clear p q) where
           go j g true d = before j (ltb-true j (64 * q) d)
           go j g false d = found.clear j (ltb-false j (64 * q) d) (omega arith)
 
--- The search for the least number after i, where i is the least: that for the least of the set without i, begun at i's word. It stands at
--- the word q, and w is that word.
-abbrev pub Passed : List ℕ → (i q w : ℕ) → Type 0
-Passed ws i q w =
-    (p : ℕ → Bool) → Words p ws → p i ≡ true → ((j : ℕ) → j < i → p j ≡ false) → (w ≡ word (mark i false p) (64 * q) 64) × Clear
-    (mark i false p) q
+-- The search for the least number after i, where i is the least: that for the least of the set without i, begun at i's word w.
+module _ {p : ℕ → Bool} {ws : List ℕ} (s : Words p ws) (i : ℕ) (high : i < 320) (on : p i ≡ true) (first : (j : ℕ) → j < i → p j ≡ false) where
+  without : get_or ws (i / 64) 0 - power i ≡ word (mark i false p) (64 * (i / 64)) 64
+  without = omega (arith, away_is s i high on)
 
-module _ {ws : List ℕ} (i : ℕ) where
-  pub passed_first : i < 320 → Passed ws i (i / 64) (get_or ws (i / 64) 0 - power i)
-  passed_first high p s on first = (omega (arith, away_is s i high on), λ j h. mark_out i p j (first j (omega arith)))
+  before_clear : Clear (mark i false p) (i / 64)
+  before_clear j h = mark_out i p j (first j (omega arith))
 
-  module _ (q : ℕ) {w : ℕ} (at : Passed ws i q w) where
-    pub passed_next : i < 320 → i / 64 ≤ q → q + 1 < 5 → w ≡ 0 → Passed ws i (q + 1) (get_or ws (q + 1) 0)
-    passed_next high from h e p s on first =
-        let a = at p s on first in
-        (s.each (q + 1) h ∙ elsewhere s i high false (q + 1) h (λ x. omega arith), clear_next q a.1 a.0 e)
+  -- The next one is in i's word,
+  pub after_some : (get_or ws (i / 64) 0 - power i ≡ 0 → ⊥) → p 0 ≡ false → Least (mark i false p)
+      (i / 64 * 64 + count_trailing_zeros 64 (get_or ws (i / 64) 0 - power i))
+  after_some more f = least_some (i / 64) before_clear without (omega arith) more (mark_out i p 0 f)
 
-    module _ (p : ℕ → Bool) (s : Words p ws) (on : p i ≡ true) (first : (j : ℕ) → j < i → p j ≡ false) where
-      pub passed_none : q + 1 ≡ 5 → w ≡ 0 → Least (mark i false p) 0
-      passed_none h e = let a = at p s on first in least_none (q + 1) (clear_next q a.1 a.0 e) (omega arith)
+  -- or in the words after it, which are those of the set with i.
+  pub after_words : (q : ℕ) → i / 64 + 1 ≤ q → q < 5 → get_or ws q 0 ≡ word (mark i false p) (64 * q) 64
+  after_words q h g = s.each q g ∙ elsewhere s i high false q g (λ x. omega arith)
 
-      pub passed_some : q < 5 → (w ≡ 0 → ⊥) → p 0 ≡ false → Least (mark i false p) (q * 64 + count_trailing_zeros 64 w)
-      passed_some h more f = let a = at p s on first in least_some q a.1 a.0 h more (mark_out i p 0 f)
+  pub after_clear : get_or ws (i / 64) 0 - power i ≡ 0 → Clear (mark i false p) (i / 64 + 1)
+  after_clear e = clear_next (i / 64) before_clear without e
+
+  pub after_zero : p 0 ≡ false → mark i false p 0 ≡ false
+  after_zero f = mark_out i p 0 f

@@ -3,7 +3,7 @@
 // rows back is keeping a copy of the desk as it was.
 #![tactic(auto)]
 
-ghost use Rattle.std.specs.Prelude.{◌≡◌, Bool, true, false, ℕ, ◌+◌, ◌≤◌, ◌<◌};
+ghost use Rattle.std.specs.Prelude.{◌≡◌, Bool, true, false, ℕ, ◌+◌, ◌*◌, ◌≤◌, ◌<◌, get_or};
 ghost use mathlib.Core.List.{List, Memᴰ};
 ghost use Rattle.theory.specs.Jobs.{Job};
 ghost use Rattle.schedule.specs.Limits.{most_rows, EndsInTime};
@@ -11,7 +11,7 @@ ghost use Rattle.schedule.specs.Rows.{count_from};
 ghost use Rattle.schedule.specs.Picks.{first_pick, second_pick};
 ghost use Rattle.schedule.specs.Offset.{desk_at};
 ghost use Rattle.schedule.specs.Columns.{at, columns, Limits};
-ghost use Rattle.picks.specs.Bits.{Words, Least, mark};
+ghost use Rattle.picks.specs.Bits.{Words, Least, mark, word};
 ghost use Rattle.picks.specs.Standing.{Tables, Stands, Late, Sits, Taken};
 
 use schedule::Desk;
@@ -39,17 +39,16 @@ pub struct Moved {
     pub next: usize,
 }
 
-// The least number of the set, or 0.
-fn lowest(ready: &[u64; 5]) -> usize
-    ensures { (p : ℕ → Bool) → Words p ready.now → p 0 ≡ false → Least p result }
+// The least number of the set, or 0; the words before the word `from` hold nothing of it.
+fn lowest(ready: &[u64; 5], from: usize) -> usize
+    ensures { (p : ℕ → Bool) → ((q : ℕ) → from ≤ q → q < 5 → get_or ready.now q 0 ≡ word p (64 * q) 64) →
+        ((j : ℕ) → j < 64 * from → p j ≡ false) → p 0 ≡ false → Least p result }
 {
-    let mut q: usize = 0;
-    while q < 5 {
+    for q in from..5 {
         let w = ready[q];
         if w != 0 {
-            return q * 64 + (u64::trailing_zeros(w) as usize);
+            return q * 64 + (w.trailing_zeros() as usize);
         }
-        q += 1;
     }
     0
 }
@@ -60,18 +59,12 @@ fn next_after(ready: &[u64; 5], i: usize) -> usize
     ensures { (p : ℕ → Bool) → Words p ready.now → p 0 ≡ false → p i ≡ true → ((j : ℕ) → j < i → p j ≡ false) →
         Least (mark i false p) result }
 {
-    let mut q = i / 64;
-    let mut w = ready[q] - (1 << (i % 64));
-    loop {
-        if w != 0 {
-            return q * 64 + (u64::trailing_zeros(w) as usize);
-        }
-        q += 1;
-        if q == 5 {
-            return 0;
-        }
-        w = ready[q];
+    let q = i / 64;
+    let w = ready[q] - (1 << (i % 64));
+    if w != 0 {
+        return q * 64 + (w.trailing_zeros() as usize);
     }
+    lowest(ready, q + 1)
 }
 
 // The set with i, in place.
@@ -92,13 +85,6 @@ fn away(ready: &mut [u64; 5], i: usize)
     ready[q] = ready[q] - (1 << (i % 64));
 }
 
-// A row number as a place.
-fn wide(x: u32) -> usize
-    ensures { result ≡ x }
-{
-    x as usize
-}
-
 // The first pick, from the least row j of the set, 0 for none: it, or the next row ahead, or 0.
 fn front(by: &[u32; Desk::PLACES], n: usize, j: usize, next: usize) -> usize
     requires { n ≤ most_rows }
@@ -110,7 +96,7 @@ fn front(by: &[u32; Desk::PLACES], n: usize, j: usize, next: usize) -> usize
         return j;
     }
     if next < n {
-        return wide(by[next]);
+        return by[next] as usize;
     }
     0
 }
@@ -123,7 +109,7 @@ pub fn picks(by: &[u32; Desk::PLACES], n: usize, ready: &[u64; 5], next: usize) 
         Stands n job (at by.now) t rest next ready.now → Late n job (at by.now) t next →
         (result.first ≡ first_pick job t rest) × (result.second ≡ second_pick job t rest) }
 {
-    let i = lowest(ready);
+    let i = lowest(ready, 0);
     if i != 0 {
         let j = next_after(ready, i);
         return Picked {
@@ -132,7 +118,7 @@ pub fn picks(by: &[u32; Desk::PLACES], n: usize, ready: &[u64; 5], next: usize) 
         };
     }
     if next < n {
-        let k = wide(by[next]);
+        let k = by[next] as usize;
         return Picked {
             first: k,
             second: front(by, n, 0, next + 1),
@@ -160,16 +146,14 @@ fn advance(
         Stands n (columns release.now minutes due) (at by.now) t rest result ready.new ×
         Late n (columns release.now minutes due) (at by.now) t result }
 {
-    let mut next = from;
-    while next < n {
-        let i = wide(by[next]);
+    for next in from..n {
+        let i = by[next] as usize;
         if t < release[i] {
             return next;
         }
         put(ready, i);
-        next += 1;
     }
-    next
+    n
 }
 
 // Row i is taken: the desk moves to its end, the rows released by then are put into the set, and i is taken out of it.
@@ -222,7 +206,7 @@ pub fn start(
     Standing {
         desk: Desk::at(free),
         count: 0,
-        next: next,
-        ready: ready,
+        next,
+        ready,
     }
 }

@@ -27,12 +27,7 @@ fn decided_by(due: &[u32; Desk::PLACES], i: usize, j: usize) -> bool
     requires { (i < row_places) × (j < row_places) }
     ensures { result ≡ (eqb j 0 || leb (get_or due.now i 0) (get_or due.now j 0)) }
 {
-    if j == 0 {
-        return true;
-    }
-    let d = due[i];
-    let e = due[j];
-    d <= e
+    j == 0 || due[i] <= due[j]
 }
 
 // First picks as long as the desk is decided and the bound is kept. The rows taken stand in the order from place `count` on.
@@ -56,42 +51,29 @@ pub fn run_on(
         (run (columns release.now minutes.now due.now) begin.desk.minute rest)
         order.old result order.new }
 {
-    let mut desk = begin.desk;
-    let mut count = begin.count;
-    let mut next = begin.next;
-    let mut ready = begin.ready;
-    loop {
-        if bound < desk.worst {
-            return picks::Standing {
-                desk: desk,
-                count: count,
-                next: next,
-                ready: ready,
-            };
-        }
+    let picks::Standing {
+        mut desk,
+        mut count,
+        mut next,
+        mut ready,
+    } = begin;
+    while desk.worst <= bound {
         let p = picks::picks(by, n, &ready, next);
         let i = p.first;
-        if i == 0 {
-            return picks::Standing {
-                desk: desk,
-                count: count,
-                next: next,
-                ready: ready,
-            };
-        }
-        if !decided_by(due, i, p.second) {
-            return picks::Standing {
-                desk: desk,
-                count: count,
-                next: next,
-                ready: ready,
-            };
+        if i == 0 || !decided_by(due, i, p.second) {
+            break;
         }
         order[count] = i as u32;
         let m = picks::take(release, minutes, due, by, n, desk, next, &mut ready, i);
         desk = m.desk;
         next = m.next;
         count += 1;
+    }
+    picks::Standing {
+        desk,
+        count,
+        next,
+        ready,
     }
 }
 
@@ -122,12 +104,11 @@ fn block_on(
     order[k] = i as u32;
     let mut ready = s.ready;
     let m = picks::take(release, minutes, due, by, n, s.desk, s.next, &mut ready, i);
-    let desk = m.desk;
     let first = picks::Standing {
-        desk: desk,
+        desk: m.desk,
         count: k + 1,
         next: m.next,
-        ready: ready,
+        ready,
     };
     run_on(release, minutes, due, by, n, first, bound, order)
 }
@@ -216,14 +197,9 @@ pub fn plan_for(
 {
     let begin = picks::start(release, by, n, free);
     let mut s = run_on(release, minutes, due, by, n, begin, bound, order);
-    loop {
-        if bound < s.desk.worst {
-            return s;
-        }
-        if s.count == n {
-            return s;
-        }
+    while s.desk.worst <= bound && s.count != n {
         let b = next_block(release, minutes, due, by, n, s, bound, order);
         s = b.after;
     }
+    s
 }

@@ -1,6 +1,6 @@
 -- The trail: what a block more, a smaller bound and a step back make of it, and what the words of a block hold.
 -- Assumes nothing.
-use Prim.Native.Nat.{ℕ, zero, suc, ◌-◌, ◌≤◌, ◌<◌}
+use Prim.Native.Nat.{ℕ, zero, suc, ◌+◌, ◌-◌, ◌≤◌, ◌<◌}
 use native.Mathlib.Omega.{arith}
 use mathlib.Core.Bool.{Bool, true, false}
 use mathlib.Core.Path.{◌≡◌, refl, sym, subst}
@@ -35,11 +35,11 @@ module _ (trail : List (List ℕ)) (bound depth : ℕ) where
   past_first e h l = let z : ⊥ = omega arith in absurd z
 
   module _ (k : ℕ) (some : k ≤ depth) (past : Past k) where
-    pub back_begun : 0 < k → worst_at trail (k - 1) ≤ bound → Back trail bound depth k
+    pub back_begun : 0 < k → worst_at trail (k - 1) ≤ bound → Back trail bound depth (k - 1 + 1)
     back_begun h l = record {
-      some = some;
+      some = omega arith;
       begun = λ e x. subst (λ (m : ℕ). worst_at trail m ≤ bound) (omega (arith, x)) l;
-      past = past;
+      past = λ e x y. past e (omega arith) y;
     }
 
     pub back_none : k ≤ 0 → Back trail bound depth 0

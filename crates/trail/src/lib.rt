@@ -2,7 +2,7 @@
 // Rows are numbered from 1, so columns have 257 places; 0 stands for no row. Latenesses and bounds are raised by 2^31.
 #![tactic(auto)]
 
-ghost use Rattle.std.specs.Prelude.{◌≡◌, Bool, length, ℕ, ◌≤◌, ◌<◌};
+ghost use Rattle.std.specs.Prelude.{◌≡◌, Bool, length, ℕ, ◌+◌, ◌≤◌, ◌<◌, MatchOption};
 ghost use Rattle.schedule.specs.Limits.{EndsInTime, most_rows};
 ghost use Rattle.schedule.specs.Columns.{at, columns, Limits};
 ghost use Rattle.picks.specs.declared.Standing.{Standing};
@@ -29,11 +29,11 @@ fn words_of(s: picks::Standing, second: bool) -> [u64; 10]
 {
     let w = s.ready;
     [
-        s.desk.minute as u64,
-        s.desk.worst as u64,
+        u64::from(s.desk.minute),
+        u64::from(s.desk.worst),
         s.count as u64,
         s.next as u64,
-        second as u64,
+        u64::from(second),
         w[0],
         w[1],
         w[2],
@@ -83,18 +83,13 @@ fn onward(
 {
     let mut s = first;
     let mut d = from;
-    loop {
-        if bound < s.desk.worst {
-            return Reached { depth: d, at: s };
-        }
-        if s.count == n {
-            return Reached { depth: d, at: s };
-        }
+    while s.desk.worst <= bound && s.count != n {
         let b = search::next_block(release, minutes, due, by, n, s, bound, order);
         trail[d] = words_of(s, b.second);
         s = b.after;
         d += 1;
     }
+    Reached { depth: d, at: s }
 }
 
 // The search set out with a bound: the first run, then blocks.
@@ -121,19 +116,17 @@ pub fn set_out(
     onward(release, minutes, due, by, n, first, 0, bound, order, trail)
 }
 
-// The blocks before the last one that was begun within the bound, and that one: how many they are.
-fn back_to(trail: &[[u64; 10]], depth: usize, bound: u32) -> usize
+// The last of the first blocks on the trail, as many as `depth`, that was begun within the bound.
+fn back_to(trail: &[[u64; 10]], depth: usize, bound: u32) -> Option<usize>
     requires { depth ≤ length trail.now }
-    ensures { Back trail.now bound depth result }
+    ensures { MatchOption result (Back trail.now bound depth 0) (λ k. Back trail.now bound depth (k + 1)) }
 {
-    let mut k = depth;
-    while k > 0 {
-        if trail[k - 1][WORST] <= (bound as u64) {
-            return k;
+    for k in (0..depth).rev() {
+        if trail[k][WORST] <= u64::from(bound) {
+            return Some(k);
         }
-        k -= 1;
     }
-    0
+    None
 }
 
 // The search taken up again with a smaller bound: at the first block that holds the worst lateness, with block two in its place.
@@ -160,16 +153,26 @@ pub fn resume(
         Ended n (columns release.now minutes.now due.now) (at by.now) free bound
         trail.new result) }
 {
-    let k = back_to(trail, reached.depth, bound);
-    if k == 0 {
+    let Some(k) = back_to(trail, reached.depth, bound) else {
         return reached;
-    }
-    let w = trail[k - 1];
+    };
+    let w = trail[k];
     if w[SECOND] != 0 {
         return reached;
     }
     let s = desk_of(w);
     let two = search::block_two(release, minutes, due, by, n, s, bound, order);
-    trail[k - 1] = words_of(s, true);
-    onward(release, minutes, due, by, n, two, k, bound, order, trail)
+    trail[k] = words_of(s, true);
+    onward(
+        release,
+        minutes,
+        due,
+        by,
+        n,
+        two,
+        k + 1,
+        bound,
+        order,
+        trail,
+    )
 }

@@ -1,6 +1,5 @@
 -- `picks::front` meets its contract: each of its three answers is the first pick.
 -- Assumes nothing.
-use mathlib.Core.Path.{◌∙◌}
 use Rattle.picks.proofs.Fronts.{ready_pick, ahead_pick, none_picks}
 use Rattle.picks.proofs.front.Goals as goal
 
@@ -9,7 +8,7 @@ returns-then-j-ne0 c = λ job t rest ready k s l late. ready_pick k s l c.if-j-n
 
 pub returns-then-next-n : goal.returns-then-next-n
 returns-then-next-n c =
-    λ job t rest ready k s l late. c.wide.ensures ∙ ahead_pick k s l c.if-j-ne0.false late
+    λ job t rest ready k s l late. ahead_pick k s l c.if-j-ne0.false late
     c.if-next-n.true
 
 pub returns : goal.returns

@@ -17,26 +17,26 @@ loop-s-init c =
     let b = c.start-begin.ensures in
     planning_first _ _ _ c.requires.limits _ _ _ _ _ _ b.1 b.2 (c.run_on-s.ensures _ (b.0 a.minutes.now a.due.now c.requires.tables))
 
-pub returns-then-bound-s : goal.returns-then-bound-s
-returns-then-bound-s c = searched_over _ _ _ c.requires.limits _ _ _ _ c.loop-s.invariant
-    c.if-bound-s.true
+pub returns-after-loop-s : goal.returns-after-loop-s
+returns-after-loop-s c = searched_over _ _ _ c.requires.limits _ _ _ _ c.loop-s.invariant
+    c.loop-s-test.false
 
-pub returns-then-s-n : goal.returns-then-s-n
-returns-then-s-n c =
-    searched_kept _ _ _ c.requires.limits _ _ _ _ c.loop-s.invariant c.if-bound-s.false c.requires.tables.few
-    c.if-s-n.true
+pub returns-else-s-n : goal.returns-else-s-n
+returns-else-s-n c =
+    searched_kept _ _ _ c.requires.limits _ _ _ _ c.loop-s.invariant c.loop-s-test.true c.requires.tables.few
+    c.if-s-n.false
 
 pub next_block-b-requires : goal.next_block-b-requires
 next_block-b-requires c =
     let g = c.loop-s.invariant in
-    let h = g.kept c.if-bound-s.false in record {
+    let h = g.kept c.loop-s-test.true in record {
       limits = c.requires.limits;
       tables = c.requires.tables;
       by_index = (
         (
           h.rest,
           h.way.sits,
-          planning_torn _ _ _ c.requires.limits _ _ _ _ g c.if-bound-s.false c.if-s-n.false,
+          planning_torn _ _ _ c.requires.limits _ _ _ _ g c.loop-s-test.true c.if-s-n.true,
         ),
         g.places,
       );
@@ -45,18 +45,18 @@ next_block-b-requires c =
 pub loop-s-smaller : goal.loop-s-smaller
 loop-s-smaller c =
     let g = c.loop-s.invariant in
-    let low = c.if-bound-s.false in
+    let low = c.loop-s-test.true in
     let h = g.kept low in
     omega (
       arith,
       (c.next_block-b.ensures _ h.way.sits
-          (planning_torn _ _ _ c.requires.limits _ _ _ _ g low c.if-s-n.false)).counts,
+          (planning_torn _ _ _ c.requires.limits _ _ _ _ g low c.if-s-n.true)).counts,
     )
 
 pub loop-s-preserved : goal.loop-s-preserved
 loop-s-preserved c =
     let g = c.loop-s.invariant in
-    let low = c.if-bound-s.false in
-    let more = c.if-s-n.false in
+    let low = c.loop-s-test.true in
+    let more = c.if-s-n.true in
     planning_next _ _ _ c.requires.limits _ _ _ _ g low more _ _
     (c.next_block-b.ensures _ (g.kept low).way.sits (planning_torn _ _ _ c.requires.limits _ _ _ _ g low more))

@@ -5,13 +5,14 @@ use native.Mathlib.Omega.{arith}
 use Rattle.search.proofs.Picked.{row_high, room, none_left, first_mem, first_within_lem, second_within, deciding}
 use Rattle.search.proofs.Steps.{toward_first, ran_over, ran_none, ran_torn, toward_next, toward_less}
 use Rattle.search.proofs.run_on.Goals as goal
+use Rattle.search.proofs.run_on.Goals.{then-i-eq0-via-then-i-eq0, then-i-eq0-via-else-i-eq0+then-not-decided_by}
 
 pub loop-desk-init : goal.loop-desk-init
 loop-desk-init c = λ all g. toward_first _ _ _ all _ _ g c.requires.by_index.1
 
-pub returns-then-bound-desk : goal.returns-then-bound-desk
-returns-then-bound-desk c = λ all g.
-    ran_over _ _ _ c.requires.limits all _ _ _ _ (c.loop-desk.invariant all g) _ c.if-bound-desk.true
+pub returns-after-loop-desk : goal.returns-after-loop-desk
+returns-after-loop-desk c = λ all g.
+    ran_over _ _ _ c.requires.limits all _ _ _ _ (c.loop-desk.invariant all g) _ c.loop-desk-test.false
 
 pub picks-p-requires : goal.picks-p-requires
 picks-p-requires c =
@@ -23,7 +24,13 @@ pub returns-then-i-eq0 : goal.returns-then-i-eq0
 returns-then-i-eq0 c = λ all g.
     let o = c.loop-desk.invariant all g in
     let q = c.picks-p.ensures _ _ _ c.requires.tables o.sits.stands o.sits.late in
-    ran_none _ _ _ c.requires.limits all _ _ _ _ o (none_left _ _ _ c.requires.tables _ _ o.sits _ q.0 c.if-i-eq0.true) _
+    elim c.then-i-eq0.branch [
+      | then-i-eq0-via-then-i-eq0 w ↦ ran_none _ _ _ c.requires.limits all _ _ _ _ o
+          (none_left _ _ _ c.requires.tables _ _ o.sits _ q.0 w.if-i-eq0.true) _
+      | then-i-eq0-via-else-i-eq0+then-not-decided_by w ↦
+          let d = deciding _ _ _ c.requires.tables _ _ o.sits _ _ q.0 q.1 _ w.decided_by.ensures w.if-i-eq0.false in
+          ran_torn _ _ _ c.requires.limits all _ _ _ _ o (sym d ∙ w.if-not-decided_by.true) _
+    ]
 
 pub decided_by-requires : goal.decided_by-requires
 decided_by-requires c =
@@ -34,13 +41,6 @@ decided_by-requires c =
       omega (arith, first_within_lem _ _ _ c.requires.tables _ _ o.sits _ q.0),
       omega (arith, second_within _ _ _ c.requires.tables _ _ o.sits _ q.1),
     )
-
-pub returns-then-not-decided_by : goal.returns-then-not-decided_by
-returns-then-not-decided_by c = λ all g.
-    let o = c.loop-desk.invariant all g in
-    let q = c.picks-p.ensures _ _ _ c.requires.tables o.sits.stands o.sits.late in
-    let d = deciding _ _ _ c.requires.tables _ _ o.sits _ _ q.0 q.1 _ c.decided_by.ensures c.if-i-eq0.false in
-    ran_torn _ _ _ c.requires.limits all _ _ _ _ o (sym d ∙ c.if-not-decided_by.true) _
 
 pub overflow_cast-order : goal.overflow_cast-order
 overflow_cast-order c =

@@ -1,8 +1,8 @@
 -- `onward` meets its contract: from each desk the search has come to it goes on with a block, which the trail holds. Each block takes a
 -- row. Assumes nothing.
-use Prim.Native.Nat.{ℕ, ◌-◌, ◌+◌}
+use Prim.Native.Nat.{ℕ, ◌+◌}
 use mathlib.Core.List.{List}
-use mathlib.Core.Path.{◌≡◌, refl, sym, subst}
+use mathlib.Core.Path.{refl, sym, subst}
 use native.Mathlib.Omega.{arith}
 use lib.ListN.{set, length-set}
 use Rattle.schedule.specs.Columns.{at, columns}
@@ -13,61 +13,61 @@ use Rattle.trail.proofs.onward.Goals as goal
 pub loop-s-init : goal.loop-s-init
 loop-s-init c = (c.requires.order_len.0, refl, λ free g. g)
 
-pub returns-then-bound-s : goal.returns-then-bound-s
-returns-then-bound-s c =
+pub returns-after-loop-s : goal.returns-after-loop-s
+returns-after-loop-s c =
     let l = c.loop-s in (
       l.invariant.0,
       omega (arith, l.invariant.1, c.requires.order_len.1),
-      λ free g. ended_over _ _ _ c.requires.limits free _ _ _ _ (l.invariant.2 free g) c.if-bound-s.true,
+      λ free g. ended_over _ _ _ c.requires.limits free _ _ _ _ (l.invariant.2 free g) c.loop-s-test.false,
     )
 
-pub returns-then-s-n : goal.returns-then-s-n
-returns-then-s-n c =
+pub returns-else-s-n : goal.returns-else-s-n
+returns-else-s-n c =
     let l = c.loop-s in (
       l.invariant.0,
       omega (arith, l.invariant.1, c.requires.order_len.1),
-      λ free g. ended_all _ _ _ c.requires.limits free _ _ _ _ (l.invariant.2 free g) c.if-s-n.true,
+      λ free g. ended_all _ _ _ c.requires.limits free _ _ _ _ (l.invariant.2 free g) c.if-s-n.false,
     )
 
 pub next_block-b-requires : goal.next_block-b-requires
 next_block-b-requires c =
     let l = c.loop-s in
-    let h = (l.invariant.2 c.requires.order_len.2.0 c.requires.order_len.2.1).kept c.if-bound-s.false in record { limits = c.requires.limits; tables = c.requires.tables; by_index = ((h.rest, h.way.sits, here_torn _ _ _ c.requires.limits _ _ _ _ _ h c.if-s-n.false), l.invariant.0) }
+    let h = (l.invariant.2 c.requires.order_len.2.0 c.requires.order_len.2.1).kept c.loop-s-test.true in record { limits = c.requires.limits; tables = c.requires.tables; by_index = ((h.rest, h.way.sits, here_torn _ _ _ c.requires.limits _ _ _ _ _ h c.if-s-n.true), l.invariant.0) }
 
 pub offset_bounds-trail-d : goal.offset_bounds-trail-d
 offset_bounds-trail-d c =
     let h = (c.loop-s.invariant.2 c.requires.order_len.2.0 c.requires.order_len.2.1).kept
-    c.if-bound-s.false in
-    record { fits = omega (arith, here_room _ _ _ c.requires.limits _ _ _ _ _ h c.if-s-n.false, c.requires.tables.few) }
+    c.loop-s-test.true in
+    record { fits = omega (arith, here_room _ _ _ c.requires.limits _ _ _ _ _ h c.if-s-n.true, c.requires.tables.few) }
 
 pub bounds-trail-d : goal.bounds-trail-d
 bounds-trail-d c =
     let l = c.loop-s in
-    let h = (l.invariant.2 c.requires.order_len.2.0 c.requires.order_len.2.1).kept c.if-bound-s.false in
-    omega (arith, here_room _ _ _ c.requires.limits _ _ _ _ _ h c.if-s-n.false, l.invariant.1, c.requires.order_len.1)
+    let h = (l.invariant.2 c.requires.order_len.2.0 c.requires.order_len.2.1).kept c.loop-s-test.true in
+    omega (arith, here_room _ _ _ c.requires.limits _ _ _ _ _ h c.if-s-n.true, l.invariant.1, c.requires.order_len.1)
 
 pub overflow_add-d : goal.overflow_add-d
 overflow_add-d c =
     let h = (c.loop-s.invariant.2 c.requires.order_len.2.0 c.requires.order_len.2.1).kept
-    c.if-bound-s.false in
-    record { fits = omega (arith, here_room _ _ _ c.requires.limits _ _ _ _ _ h c.if-s-n.false, c.requires.tables.few) }
+    c.loop-s-test.true in
+    record { fits = omega (arith, here_room _ _ _ c.requires.limits _ _ _ _ _ h c.if-s-n.true, c.requires.tables.few) }
 
 pub loop-s-smaller : goal.loop-s-smaller
 loop-s-smaller c =
     let h = (c.loop-s.invariant.2 c.requires.order_len.2.0 c.requires.order_len.2.1).kept
-    c.if-bound-s.false in
+    c.loop-s-test.true in
     omega (
       arith,
       (c.next_block-b.ensures _ h.way.sits
-          (here_torn _ _ _ c.requires.limits _ _ _ _ _ h c.if-s-n.false)).counts,
+          (here_torn _ _ _ c.requires.limits _ _ _ _ _ h c.if-s-n.true)).counts,
     )
 
 pub loop-s-preserved : goal.loop-s-preserved
 loop-s-preserved c =
     let a = c.args in
     let l = c.loop-s in
-    let low = c.if-bound-s.false in
-    let more = c.if-s-n.false in
+    let low = c.loop-s-test.true in
+    let more = c.if-s-n.true in
     let job = columns a.release.now a.minutes.now a.due.now in
     let h = (l.invariant.2 c.requires.order_len.2.0 c.requires.order_len.2.1).kept low in
     let b = c.next_block-b.result in (

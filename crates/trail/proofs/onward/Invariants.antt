@@ -1,6 +1,6 @@
 -- `onward` meets its contract: from each desk the search has come to it goes on with a block, which the trail holds. Each block takes a
 -- row. Assumes nothing.
-use Prim.Native.Nat.{ℕ, ◌-◌, ◌+◌}
+use Prim.Native.Nat.{ℕ, ◌-◌}
 use mathlib.Core.Path.{◌≡◌}
 use lib.ListN as L
 use Rattle.schedule.specs.Limits.{most_rows}
