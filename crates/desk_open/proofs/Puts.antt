@@ -1,13 +1,11 @@
 -- Words put into what is written at the start of a buffer, and the head of a desk put so before zeros.
 -- Assumes nothing.
-use Prim.Native.Nat.{ℕ, zero, suc, ◌+◌, ◌≤◌, ◌<◌}
+use Prim.Native.Nat.{ℕ, ◌+◌, ◌≤◌}
 use native.Mathlib.Omega.{arith}
-use native.Mathlib.Nat.{not-suc-le-zero, le_of_suc-le-suc}
-use native.Mathlib.Numerals.{add-one}
 use mathlib.Core.Path.{◌≡◌, refl, sym, ap, ◌∙◌}
 use mathlib.Core.List.{List, [], ◌∷◌, ◌++◌, append_assoc}
 use lib.ListN.{length, take, drop, set, replicate, length-append, length-replicate, get_or-replicate, get_or-append}
-use lib.Seq.{take-append-le, drop-append-le, get_or-set_other, set-get_or, sets-eq}
+use lib.Seq.{length-take-le, take-append-le, drop-append-le, get_or-set_other, set-get_or, sets-eq}
 use Rattle.schedule.specs.Columns.{at}
 use Rattle.results.specs.Results.{written}
 use Rattle.running.specs.Words.{desk_words, put}
@@ -22,15 +20,11 @@ module _ (p : ℕ) (xs ws : List ℕ) (room : p + length xs ≤ length ws) where
       sym (append_assoc (take p ws ++ xs) (drop (p + length xs) ws) r) ∙
       ap (λ (n : ℕ). put p xs ws ++ drop n b) (sym (put_length p xs ws room))
 
--- Zeros, written one after another.
-zero_after : (k : ℕ) (ws : List ℕ) → k < length ws → set (written (replicate k 0) ws) k 0 ≡ written (replicate (suc k) 0) ws
+-- The front of a buffer filled with zeros.
+pub zeros_front : (n : ℕ) (ws front : List ℕ) → n ≤ length ws → front ≡ replicate (length (take n ws)) 0 →
+    front ++ drop n ws ≡ written (replicate n 0) ws
 unfolding written
-zero_after k [] h = absurd (not-suc-le-zero h)
-zero_after zero (w ∷ ws) h = refl
-zero_after (suc k) (w ∷ ws) h = ap (λ (r : List ℕ). 0 ∷ r) (zero_after k ws (le_of_suc-le-suc h))
-
-pub zeros_more : (k : ℕ) (ws : List ℕ) → k < length ws → set (written (replicate k 0) ws) k 0 ≡ written (replicate (k + 1) 0) ws
-zeros_more k ws h = zero_after k ws h ∙ ap (λ (n : ℕ). written (replicate n 0) ws) (sym (add-one k))
+zeros_front n ws front h e = rw (e, length-take-le n ws h, length-replicate {A = ℕ} n 0) refl
 
 -- The count of rows, the minute and the opening, put before zeros. The word between minute and opening is one of these zeros.
 pub head_put : (count minute opening : ℕ) (ws cleared : List ℕ) → cleared ≡ written (replicate desk_words 0) ws →

@@ -28,11 +28,7 @@ fn put_head(desk: &mut [u32], count: u32, minute: u32, opening: u32)
     requires { desk_words ≤ length desk.old }
     ensures { desk.new ≡ written (put 0 (count ∷ minute ∷ 0 ∷ opening ∷ []) (replicate desk_words 0)) desk.old }
 {
-    let mut k: usize = 0;
-    while k < Layout::WORDS {
-        desk[k] = 0;
-        k += 1;
-    }
+    desk[..Layout::WORDS].fill(0);
     desk[Layout::COUNT] = count;
     desk[Layout::MINUTE] = minute;
     desk[Layout::OPENING] = opening;
@@ -72,11 +68,10 @@ pub fn open(opening: u32, book: &[u32], desk: &mut [u32]) -> OpenAnswer
 {
     let terms = Terms {
         profile: Profile::Ordering,
-        opening: opening,
+        opening,
     };
     let given = readers::read(terms, book);
-    let outcome = given.outcome;
-    if let Tested::Refused(number, place) = outcome {
+    if let Tested::Refused(number, place) = given.outcome {
         return OpenAnswer::Refused(number, place);
     }
     if desk.len() < Layout::WORDS {
