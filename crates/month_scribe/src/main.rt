@@ -9,12 +9,14 @@
 // The next day begins with free. A text of no day is a month of no day.
 #![tactic(auto)]
 
-ghost use Rattle.std.specs.Prelude.{◌≡◌, ◌+◌, ◌*◌, ◌≤◌, ◌<◌, length, take};
+ghost use Rattle.std.specs.Prelude.{◌≡◌, ◌+◌, ◌*◌, ◌≤◌, ◌<◌, length, take, IfOk, IfSome};
 
+use month_words::MOST;
 use std::io;
 use std::io::Write;
-use text_days::{Day, Place};
-use text_words::{Begun, MOST, Numbers};
+use text_days::{Book, Day, Place};
+use text_words::{Line, Words};
+use wrong_lines::{Wrong, WrongLine};
 
 // A text's bytes are fewer.
 const TEXT: usize = 1_048_576;
@@ -22,192 +24,116 @@ const TEXT: usize = 1_048_576;
 // The bytes of the longest input.
 const BYTES: usize = 159_588;
 
-// The month as far as it is read: where the next day begins, the number of that line, the bytes of the days, and what is wrong, if
-// anything: then the line is the one that is wrong, and the order number the one that no row has, if that is wrong.
+// The most days of a month.
+const DAYS: usize = 31;
+
+// The month as far as it is read: where the next day begins, and the bytes of the days.
 #[derive(Clone, Copy)]
 struct Month {
-    at: usize,
-    line: usize,
+    place: Place,
     size: usize,
-    wrong: u32,
-    number: u32,
 }
 
-impl Month {
-    const DAYS: usize = 31;
-}
-
-// A day that is put to the sheet: the bytes that it then has, or what is wrong, and the order number that no row has.
-#[derive(Clone, Copy)]
-struct Put {
-    size: usize,
-    wrong: u32,
-    number: u32,
-}
-
-impl Put {
-    fn of(size: usize, wrong: u32, number: u32) -> Put
-        ensures { result.size ≡ size }
-    {
-        Put {
-            size: size,
-            wrong: wrong,
-            number: number,
-        }
-    }
-}
-
-// Puts a day to the sheet: the words of its book, three and four for each row, and its posting, given by order numbers.
-fn put_posted(
-    book: [u32; Day::WORDS],
-    rows: usize,
-    mut posting: [u32; MOST],
-    count: usize,
+// Reads the numbers of a posted line, and puts the day to the sheet: the bytes that the sheet then has.
+fn put_day(
+    words: Words<'_>,
+    day: &Day,
+    book: &Book,
     sheet: &mut [u8],
     size: usize,
-) -> Put
-    requires { (rows ≤ 256) × (count ≤ 257) × (size + 5144 ≤ length sheet.old) }
-    ensures { result.size ≤ size + 5144 }
+) -> Result<usize, Wrong>
+    requires { size + 5144 ≤ length sheet.old }
+    ensures { IfOk result (λ end. end ≤ size + 5144) }
 {
-    let found = month_words::find_rows(&book, rows, &mut posting, count);
-    if found < count {
-        return Put::of(size, wrong_lines::NO_ROW, posting[found]);
+    let mut numbers = [0; MOST];
+    let count = text_words::read_numbers(words, &mut numbers)?;
+    let posting = &mut numbers[..count];
+    if let Err(k) = month_words::find_rows(book, day.rows, posting) {
+        return Err(Wrong::NoRow(posting[k]));
     }
-    let many = 4 * rows + 3;
-    let end = month_words::put_day(&book[..many], &posting[..count], sheet, size);
-    Put::of(end, Numbers::NOTHING, 0)
+    Ok(month_words::put_day(&book[..day.book_words()], posting, sheet, size))
 }
 
-// Reads the numbers of a posted line, and puts the day.
-fn posted_line(
-    line: &[u8],
-    book: [u32; Day::WORDS],
-    rows: usize,
-    sheet: &mut [u8],
-    size: usize,
-) -> Put
-    requires { (rows ≤ 256) × (size + 5144 ≤ length sheet.old) }
-    ensures { result.size ≤ size + 5144 }
-{
-    let mut posting = [0u32; MOST];
-    let read = text_words::read_numbers(line, 0, MOST, &mut posting);
-    let wrong = read.wrong;
-    match wrong {
-        Numbers::NOTHING => put_posted(book, rows, posting, read.count, sheet, size),
-        Numbers::MORE => Put::of(size, wrong_lines::TOO_MANY, 0),
-        _ => Put::of(size, wrong, 0),
-    }
-}
-
-// The month that stops at a line of a day.
-fn stopped(day: Day, days: usize, size: usize) -> Month
-    ensures { (result.at ≡ day.at) × (result.line ≡ day.line) × (result.size ≡ size) }
-{
-    Month {
-        at: day.at,
-        line: day.line,
-        size: size,
-        wrong: wrong_lines::in_month(day, days),
-        number: 0,
-    }
-}
-
-// A day at its posted line.
+// Puts a day that ends at a posted line, and comes after so many days: the bytes that the sheet then has.
 fn end_day(
-    text: &[u8],
-    posted: Begun,
-    day: Day,
-    mut book: [u32; Day::WORDS],
+    posted: Words<'_>,
+    day: &Day,
+    book: &mut Book,
     days: usize,
     sheet: &mut [u8],
     size: usize,
-) -> Month
-    requires { (posted.from ≤ posted.end) × (posted.end ≤ length text.now) × (day.at < posted.next)
-        × (posted.next ≤ length text.now + 1) × (day.rows ≤ 256) × (day.line ≤ day.at + 1)
-        × (size + 5144 ≤ length sheet.old) }
-    ensures { (result.at ≤ length text.now + 1) × (result.line ≤ result.at + 1) × (result.size ≤ size + 5144) }
+) -> Result<usize, WrongLine<Wrong>>
+    requires { size + 5144 ≤ length sheet.old }
+    ensures { IfOk result (λ end. end ≤ size + 5144) }
 {
-    let ended = text_days::finish(day, &mut book);
-    if ended.wrong != Numbers::NOTHING {
-        return stopped(ended, days, size);
-    }
-    let from = posted.from;
-    let end = posted.end;
-    let put = posted_line(&text[from..end], book, ended.rows, sheet, size);
-    if put.wrong != Numbers::NOTHING {
-        return Month {
-            at: ended.at,
-            line: ended.line,
-            size: size,
-            wrong: put.wrong,
-            number: put.number,
-        };
-    }
-    Month {
-        at: posted.next,
-        line: ended.line + 1,
-        size: put.size,
-        wrong: Numbers::NOTHING,
-        number: 0,
+    day.finish(book)
+        .map_err(|wrong| wrong_lines::in_month(day, Some(wrong), days))?;
+    let line = day.place.line;
+    put_day(posted, day, book, sheet, size).map_err(|wrong| WrongLine { line, wrong })
+}
+
+// The posted line, if it is that one that is wrong in a day.
+fn posted_line(text: &[u8], at: usize, wrong: text_days::Wrong) -> Option<Line<'_>>
+    requires { at ≤ length text.now }
+    ensures { IfSome result (λ line. (at < line.next) × (line.next ≤ length text.now + 1)) }
+{
+    match wrong {
+        text_days::Wrong::Unknown => text_words::begins(text, at, b"posted"),
+        _ => None,
     }
 }
 
 // Reads a day that comes after so many days, and puts it to the sheet.
-fn read_day(text: &[u8], from: Place, days: usize, sheet: &mut [u8], size: usize) -> Month
+fn read_day(
+    text: &[u8],
+    from: Place,
+    days: usize,
+    sheet: &mut [u8],
+    size: usize,
+) -> Result<Month, WrongLine<Wrong>>
     requires { (from.at ≤ length text.now + 1) × (from.line ≤ from.at + 1) × (size + 5144 ≤ length sheet.old) }
-    ensures { (result.at ≤ length text.now + 1) × (result.line ≤ result.at + 1) × (result.size ≤ size + 5144) }
+    ensures { IfOk result (λ month. (month.place.at ≤ length text.now + 1) × (month.place.line ≤ month.place.at + 1)
+        × (month.size ≤ size + 5144)) }
 {
-    let mut book = [0u32; Day::WORDS];
-    let day = text_days::read_lines(text, from.at, from.line, &mut book);
-    if day.wrong == Day::UNKNOWN {
-        let at = day.at;
-        let posted = text_words::begins(text, at, b"posted");
-        if posted.found {
-            return end_day(
-                text,
-                posted,
-                day.but(Numbers::NOTHING),
-                book,
-                days,
-                sheet,
-                size,
-            );
-        }
-    }
-    stopped(text_days::finish(day, &mut book), days, size)
+    let mut book = [0; Day::WORDS];
+    let mut day = Day::new(from);
+    let Err(wrong) = day.read_lines(text, &mut book) else {
+        let missing = day.finish(&mut book).err();
+        return Err(wrong_lines::in_month(&day, missing, days));
+    };
+    let Some(posted) = posted_line(text, day.place.at, wrong) else {
+        return Err(wrong_lines::in_month(&day, Some(wrong), days));
+    };
+    let place = Place {
+        at: posted.next,
+        line: day.place.line + 1,
+    };
+    let size = end_day(posted.words, &day, &mut book, days, sheet, size)?;
+    Ok(Month { place, size })
 }
 
-// Reads the days up to the first wrong line, and puts them to the sheet.
-fn read_days(text: &[u8], sheet: &mut [u8]) -> Month
+// Reads the days up to the first wrong line, and puts them to the sheet: the bytes that it then has.
+fn read_days(text: &[u8], sheet: &mut [u8]) -> Result<usize, WrongLine<Wrong>>
     requires { length sheet.old ≡ 159588 }
-    ensures { (result.size ≤ 159588) × (result.size ≡ length (take result.size sheet.new)) }
+    ensures { IfOk result (λ size. (size ≤ 159588) × (size ≡ length (take size sheet.new))) }
 {
     let mut month = Month {
-        at: 0,
-        line: 1,
+        place: Place::START,
         size: 0,
-        wrong: Numbers::NOTHING,
-        number: 0,
     };
-    let mut days: usize = 0;
-    while days < Month::DAYS {
-        let next = text_days::next_line(text, month.at, month.line);
-        if next.at >= text.len() {
-            return month;
-        }
-        month = read_day(text, next, days, sheet, month.size);
-        if month.wrong != Numbers::NOTHING {
-            return month;
-        }
-        days += 1;
+    for days in 0..DAYS {
+        let Some(next) = text_days::next_line(text, month.place) else {
+            return Ok(month.size);
+        };
+        month = read_day(text, next, days, sheet, month.size)?;
     }
-    let next = text_days::next_line(text, month.at, month.line);
-    if next.at >= text.len() {
-        return month;
+    match text_days::next_line(text, month.place) {
+        None => Ok(month.size),
+        Some(next) => Err(WrongLine {
+            line: next.line,
+            wrong: Wrong::Full,
+        }),
     }
-    month.line = next.line;
-    month.wrong = wrong_lines::FULL;
-    month
 }
 
 // Room for a text.
@@ -228,13 +154,11 @@ fn main(rt: HostRuntime) -> io::Result<()> {
     let mut text = no_text();
     let bytes = streams::read_full(&mut rt.stdin(), &mut text)?;
     if bytes == TEXT {
-        return wrong_lines::say(&rt, "the text is too long: 1048575 bytes is the most\n");
+        return rt.eprintln("the text is too long: 1048575 bytes is the most");
     }
     let mut sheet = no_bytes();
-    let month = read_days(&text[..bytes], &mut sheet);
-    if month.wrong == Numbers::NOTHING {
-        rt.stdout().write_all(&sheet[..month.size])
-    } else {
-        wrong_lines::say_in_month(&rt, month.line, month.wrong, month.number)
+    match read_days(&text[..bytes], &mut sheet) {
+        Ok(size) => rt.stdout().write_all(&sheet[..size]),
+        Err(wrong) => rt.eprintln(wrong),
     }
 }

@@ -2,49 +2,41 @@
 // order numbers.
 #![tactic(auto)]
 
-ghost use Rattle.std.specs.Prelude.{◌≡◌, ◌+◌, ◌*◌, ◌≤◌, length};
+ghost use Rattle.std.specs.Prelude.{◌≡◌, ◌+◌, ◌*◌, ◌≤◌, ◌<◌, length, MatchOption, OnOk, IfErr};
 ghost use Rattle.month_words.specs.Postings.{RowOf, Turned};
 ghost use Rattle.month_words.specs.Days.{PutList, PutDay};
 
-use text_days::Day;
-use text_words::MOST;
+use text_days::Book;
 
-// The first row that has this order number, counted from 1; 0 if no row has it.
-fn row_of(book: &[u32; Day::WORDS], rows: usize, number: u32) -> usize
+// The most order numbers of a posting.
+pub const MOST: usize = 257;
+
+// The first row that has this order number, counted from 1.
+fn row_of(book: &Book, rows: usize, number: u32) -> Option<usize>
     requires { rows ≤ 256 }
-    ensures { RowOf result rows number book.now }
+    ensures { MatchOption result (RowOf 0 rows number book.now) (λ row. (0 < row) × RowOf row rows number book.now) }
 {
     let word = text_days::word_of(3, number);
-    let mut i: usize = 0;
-    while i < rows {
+    for i in 0..rows {
         if book[4 * i + 2] == word {
-            return i + 1;
+            return Some(i + 1);
         }
-        i += 1;
     }
-    0
+    None
 }
 
-// Puts rows in the place of their order numbers, up to the first number that no row has: how many.
-pub fn find_rows(
-    book: &[u32; Day::WORDS],
-    rows: usize,
-    posting: &mut [u32; MOST],
-    count: usize,
-) -> usize
-    requires { (rows ≤ 256) × (count ≤ 257) × (length posting.old ≡ 257) }
-    ensures { Turned result rows count book.now posting.old posting.new }
+// Puts rows in the place of their order numbers. Stops at the first number that no row has: its place.
+pub fn find_rows(book: &Book, rows: usize, posting: &mut [u32]) -> Result<(), usize>
+    requires { rows ≤ 256 }
+    ensures found { OnOk result (Turned (length posting.old) rows (length posting.old) book.now posting.old posting.new) }
+    ensures lost { IfErr result (λ k. (k < length posting.old)
+        × Turned k rows (length posting.old) book.now posting.old posting.new) }
 {
-    let mut k: usize = 0;
-    while k < count {
-        let row = row_of(book, rows, posting[k]);
-        if row == 0 {
-            return k;
-        }
-        posting[k] = row as u32;
-        k += 1;
+    for (k, number) in posting.iter_mut().enumerate() {
+        let row = row_of(book, rows, *number).ok_or(k)?;
+        *number = row as u32;
     }
-    k
+    Ok(())
 }
 
 // A list of words behind its length.

@@ -10,19 +10,56 @@
 // reader to judge: here a number has only to fit the 29 bits of a word's value.
 #![tactic(auto)]
 
-ghost use Rattle.std.specs.Prelude.{◌≡◌, ◌+◌, ◌*◌, ◌%◌, ◌≤◌, ◌<◌, cond, length};
+ghost use Rattle.std.specs.Prelude.{◌≡◌, ◌+◌, ◌*◌, ◌%◌, ◌≤◌, ◌<◌, cond, length, IfSome, OnErr};
 
-use text_words::{MOST, Numbers};
+use std::fmt;
+use text_words::Words;
 
-// The day as far as it is read: where the next line begins, its number, what may come next, the rows, and what is wrong, if anything. If
-// a line is wrong, it is the one that begins there.
-#[derive(Clone, Copy)]
-pub struct Day {
-    pub at: usize,
-    pub line: usize,
-    pub stage: u32,
-    pub rows: usize,
-    pub wrong: u32,
+// What is wrong with a line of a day: its numbers, its first word, or where it stands; or with the end of a day.
+#[derive(Clone, Copy, Debug, PartialEq, Eq)]
+pub enum Wrong {
+    Numbers(text_words::Wrong),
+    Unknown,
+    FreeAgain,
+    PaceAgain,
+    PaceFirst,
+    RowFirst,
+    Full,
+    NoFree,
+    NoPace,
+    NoRows,
+}
+
+impl From<text_words::Wrong> for Wrong {
+    fn from(wrong: text_words::Wrong) -> Wrong {
+        Wrong::Numbers(wrong)
+    }
+}
+
+impl fmt::Display for Wrong {
+    fn fmt<W: fmt::Write>(&self, f: &mut fmt::Formatter<W>) -> fmt::Result {
+        f.write_str(match self {
+            Wrong::Numbers(text_words::Wrong::Missing) => {
+                "a number is missing: free and pace have one, a row has four, or three and class with one"
+            }
+            Wrong::Numbers(text_words::Wrong::Strange) =>
+                "not a number: only the digits 0 to 9 may stand here",
+            Wrong::Numbers(text_words::Wrong::Large) =>
+                "number too large for a book: 536870911 is the most",
+            Wrong::Numbers(text_words::Wrong::More) => {
+                "too much on this line: free and pace have one number, a row has four, or three and class with one"
+            }
+            Wrong::Unknown => "unknown word: a line begins with free, pace or row",
+            Wrong::FreeAgain => "free is there already",
+            Wrong::PaceAgain => "pace is there already",
+            Wrong::PaceFirst => "pace comes before free",
+            Wrong::RowFirst => "row comes before free and pace",
+            Wrong::Full => "too many rows: 256 is the most",
+            Wrong::NoFree => "the day ends without free",
+            Wrong::NoPace => "the day ends without pace",
+            Wrong::NoRows => "the day ends without rows",
+        })
+    }
 }
 
 // A line of a text: where it begins, and its number.
@@ -32,57 +69,30 @@ pub struct Place {
     pub line: usize,
 }
 
-impl Day {
-    // Words of the longest book.
-    pub const WORDS: usize = 1_027;
-
-    const ROWS: usize = 256;
-
-    // What may come next: free, then pace, then rows.
-    pub const FREE: u32 = 0;
-
-    const PACE: u32 = 1;
-
-    const ROW: u32 = 2;
-
-    // What is wrong with a line, if not its numbers.
-    pub const UNKNOWN: u32 = 5;
-
-    pub const FREE_AGAIN: u32 = 6;
-
-    pub const PACE_AGAIN: u32 = 7;
-
-    pub const PACE_FIRST: u32 = 8;
-
-    pub const ROW_FIRST: u32 = 9;
-
-    pub const FULL: u32 = 10;
-
-    // What is wrong with the end of a day.
-    pub const NO_FREE: u32 = 11;
-
-    pub const NO_PACE: u32 = 12;
-
-    pub const NO_ROWS: u32 = 13;
-
-    // The day with another word on what is wrong.
-    pub fn but(mut self, wrong: u32) -> Day
-        ensures { (result.rows ≡ self.rows) × (result.at ≡ self.at) × (result.line ≡ self.line) }
-    {
-        self.wrong = wrong;
-        self
-    }
-
-    // The day after a line: what may come next, the rows, and what is wrong with the line.
-    fn after(mut self, stage: u32, rows: usize, wrong: u32) -> Day
-        ensures { (result.rows ≡ rows) × (result.at ≡ self.at) × (result.line ≡ self.line) }
-    {
-        self.stage = stage;
-        self.rows = rows;
-        self.wrong = wrong;
-        self
-    }
+impl Place {
+    // Where a text begins.
+    pub const START: Place = Place { at: 0, line: 1 };
 }
+
+// A line by its first word, and what may come next in a day: free, then pace, then rows.
+#[derive(Clone, Copy, PartialEq, Eq)]
+pub enum Stage {
+    Free,
+    Pace,
+    Row,
+}
+
+// The day as far as it is read: the next line, what may come there, and the rows. If a line is wrong, it is that one.
+#[derive(Clone, Copy)]
+pub struct Day {
+    pub place: Place,
+    pub stage: Stage,
+    pub rows: usize,
+    ghost few: { rows ≤ 256 },
+}
+
+// The words of a book of a day.
+pub type Book = [u32; Day::WORDS];
 
 // The word of a kind with a value, which has 29 bits.
 pub fn word_of(kind: u32, value: u32) -> u32
@@ -103,188 +113,169 @@ fn last_word(classed: bool, value: u32) -> u32
     }
 }
 
-// Reads the number of free or pace, whose word is the first or the second of the book; answers what is wrong.
-fn put_head(line: &[u8], stage: u32, words: &mut [u32; Day::WORDS]) -> u32
-    requires { stage < 2 }
-{
-    let mut values = [0u32; MOST];
-    let wrong = text_words::all_numbers(line, 1, &mut values);
-    let at = stage as usize;
-    words[at] = word_of(stage + 1, values[0]);
-    wrong
-}
-
-// Reads the numbers of a row, which comes after so many rows; answers what is wrong.
-fn put_row(line: &[u8], rows: usize, words: &mut [u32; Day::WORDS]) -> u32
-    requires { rows < 256 }
-{
-    let mut values = [0u32; MOST];
-    let classed = text_words::has_class(line);
-    let wrong = text_words::row_numbers(line, classed, &mut values);
-    let at = 4 * rows + 2;
-    words[at] = word_of(3, values[0]);
-    words[at + 1] = word_of(4, values[1]);
-    words[at + 2] = word_of(5, values[2]);
-    words[at + 3] = last_word(classed, values[3]);
-    wrong
-}
-
-// What is wrong with a line of free or pace, if it comes where `due` is what may come.
-fn head_turn(stage: u32, due: u32) -> u32 {
-    if stage == due {
-        return Numbers::NOTHING;
-    }
-    if stage == Day::FREE {
-        return Day::FREE_AGAIN;
-    }
-    if due == Day::FREE {
-        return Day::PACE_FIRST;
-    }
-    Day::PACE_AGAIN
-}
-
-// A line of free or pace.
-fn head_line(line: &[u8], stage: u32, day: Day, words: &mut [u32; Day::WORDS]) -> Day
-    requires { (stage < 2) × (day.rows ≤ 256) }
-    ensures { (result.rows ≤ 256) × (result.at ≡ day.at) × (result.line ≡ day.line) }
-{
-    let wrong = head_turn(stage, day.stage);
-    if wrong != Numbers::NOTHING {
-        return day.but(wrong);
-    }
-    let said = put_head(line, stage, words);
-    day.after(stage + 1, day.rows, said)
-}
-
-fn row_line(line: &[u8], day: Day, words: &mut [u32; Day::WORDS]) -> Day
-    requires { day.rows ≤ 256 }
-    ensures { (result.rows ≤ 256) × (result.at ≡ day.at) × (result.line ≡ day.line) }
-{
-    if day.stage != Day::ROW {
-        return day.but(Day::ROW_FIRST);
-    }
-    let rows = day.rows;
-    if rows == Day::ROWS {
-        return day.but(Day::FULL);
-    }
-    let wrong = put_row(line, rows, words);
-    day.after(Day::ROW, rows + 1, wrong)
-}
-
-// The stage that the first word of a line belongs to; any other word is unknown.
-fn stage_of(word: &[u8]) -> u32 {
-    if check::same(word, b"free") {
-        return Day::FREE;
-    }
-    if check::same(word, b"pace") {
-        return Day::PACE;
-    }
-    if check::same(word, b"row") {
-        return Day::ROW;
-    }
-    Day::UNKNOWN
-}
-
-// A line without its comment: its first word says what it is.
-fn bare_line(line: &[u8], day: Day, words: &mut [u32; Day::WORDS]) -> Day
-    requires { day.rows ≤ 256 }
-    ensures { (result.rows ≤ 256) × (result.at ≡ day.at) × (result.line ≡ day.line) }
-{
-    let word = text_words::next_word(line, 0);
-    let start = word.start;
-    let end = word.end;
-    if start == end {
-        return day;
-    }
-    let stage = stage_of(&line[start..end]);
-    if stage == Day::UNKNOWN {
-        return day.but(stage);
-    }
-    if stage < Day::ROW {
-        return head_line(&line[end..], stage, day, words);
-    }
-    row_line(&line[end..], day, words)
-}
-
-// The next line that has a word, from a place on whose line has this number; or the end of the text.
-pub fn next_line(text: &[u8], from: usize, line: usize) -> Place
-    requires { (from ≤ length text.now + 1) × (line ≤ from + 1) }
-    ensures { (result.at ≤ length text.now + 1) × (result.line ≤ result.at + 1) }
-{
-    let mut place = Place {
-        at: from,
-        line: line,
+// The last word of a row, of what stands after its pages: the word class and a class, or a due.
+fn read_last(words: &mut Words<'_>) -> Result<u32, text_words::Wrong> {
+    let word = words.next().ok_or(text_words::Wrong::Missing)?;
+    let classed = check::same(word, b"class");
+    let value = if classed {
+        words.number()?
+    } else {
+        text_words::number_of(word)?
     };
-    let mut at = from;
-    while at < text.len() {
-        let ends = text_words::line_at(text, at);
-        let end = ends.end;
-        let word = text_words::next_word(&text[at..end], 0);
-        if word.start < word.end {
-            return place;
+    Ok(last_word(classed, value))
+}
+
+// The one number of a line of free or pace.
+fn read_one(mut words: Words<'_>) -> Result<u32, text_words::Wrong> {
+    let value = words.number()?;
+    words.end()?;
+    Ok(value)
+}
+
+// The four words of a row.
+fn read_row(mut words: Words<'_>) -> Result<[u32; 4], text_words::Wrong> {
+    let number = word_of(3, words.number()?);
+    let release = word_of(4, words.number()?);
+    let pages = word_of(5, words.number()?);
+    let last = read_last(&mut words)?;
+    words.end()?;
+    Ok([number, release, pages, last])
+}
+
+// The stage of a line with this first word.
+fn stage_of(word: &[u8]) -> Result<Stage, Wrong> {
+    if check::same(word, b"free") {
+        Ok(Stage::Free)
+    } else if check::same(word, b"pace") {
+        Ok(Stage::Pace)
+    } else if check::same(word, b"row") {
+        Ok(Stage::Row)
+    } else {
+        Err(Wrong::Unknown)
+    }
+}
+
+impl Day {
+    // Words of the longest book.
+    pub const WORDS: usize = 1_027;
+
+    const ROWS: usize = 256;
+
+    // A day of which nothing is read, that begins at a place.
+    pub fn new(place: Place) -> Day
+        ensures { (result.place ≡ place) × (result.rows ≡ 0) }
+    {
+        Day {
+            place,
+            stage: Stage::Free,
+            rows: 0,
         }
-        at = ends.next;
-        place.at = at;
+    }
+
+    // Reads what stands after free. The line counts, whatever is wrong with its number.
+    fn free_line(&mut self, words: Words<'_>, book: &mut Book) -> Result<(), Wrong>
+        ensures { self.new.place ≡ self.old.place }
+    {
+        if self.stage != Stage::Free {
+            return Err(Wrong::FreeAgain);
+        }
+        self.stage = Stage::Pace;
+        book[0] = word_of(1, read_one(words)?);
+        Ok(())
+    }
+
+    // Reads what stands after pace.
+    fn pace_line(&mut self, words: Words<'_>, book: &mut Book) -> Result<(), Wrong>
+        ensures { self.new.place ≡ self.old.place }
+    {
+        match self.stage {
+            Stage::Free => return Err(Wrong::PaceFirst),
+            Stage::Row => return Err(Wrong::PaceAgain),
+            Stage::Pace => self.stage = Stage::Row,
+        }
+        book[1] = word_of(2, read_one(words)?);
+        Ok(())
+    }
+
+    // Reads what stands after row.
+    fn row_line(&mut self, words: Words<'_>, book: &mut Book) -> Result<(), Wrong>
+        ensures { self.new.place ≡ self.old.place }
+    {
+        if self.stage != Stage::Row {
+            return Err(Wrong::RowFirst);
+        }
+        let rows = self.rows;
+        if rows == Day::ROWS {
+            return Err(Wrong::Full);
+        }
+        let at = 4 * rows + 2;
+        self.rows = rows + 1;
+        book[at..at + 4].copy_from_slice(&read_row(words)?);
+        Ok(())
+    }
+
+    // Reads a line: its first word says what it is.
+    fn read_line(&mut self, mut words: Words<'_>, book: &mut Book) -> Result<(), Wrong>
+        ensures { self.new.place ≡ self.old.place }
+    {
+        let Some(first) = words.next() else {
+            return Ok(());
+        };
+        match stage_of(first)? {
+            Stage::Free => self.free_line(words, book),
+            Stage::Pace => self.pace_line(words, book),
+            Stage::Row => self.row_line(words, book),
+        }
+    }
+
+    // Reads the lines of a text that are left, up to the first that is wrong.
+    pub fn read_lines(&mut self, text: &[u8], book: &mut Book) -> Result<(), Wrong>
+        requires { (self.old.place.at ≤ length text.now + 1) × (self.old.place.line ≤ self.old.place.at + 1) }
+        ensures in_text { (self.new.place.at ≤ length text.now + 1) × (self.new.place.line ≤ self.new.place.at + 1) }
+        ensures at_in_bounds { OnErr result (self.new.place.at < length text.now) }
+    {
+        while self.place.at < text.len() {
+            let line = text_words::line_at(text, self.place.at);
+            self.read_line(line.words, book)?;
+            self.place.at = line.next;
+            self.place.line += 1;
+        }
+        Ok(())
+    }
+
+    // The words of its book.
+    pub fn book_words(&self) -> usize
+        ensures { result ≡ 4 * self.now.rows + 3 }
+    {
+        4 * self.rows + 3
+    }
+
+    // Puts the end word to the book of a day that ends here.
+    pub fn finish(&self, book: &mut Book) -> Result<(), Wrong> {
+        match self.stage {
+            Stage::Free => return Err(Wrong::NoFree),
+            Stage::Pace => return Err(Wrong::NoPace),
+            Stage::Row if self.rows == 0 => return Err(Wrong::NoRows),
+            Stage::Row => {}
+        }
+        book[self.book_words() - 1] = word_of(7, self.rows as u32);
+        Ok(())
+    }
+}
+
+// The next line that has a word, from a place on.
+pub fn next_line(text: &[u8], from: Place) -> Option<Place>
+    requires { (from.at ≤ length text.now + 1) × (from.line ≤ from.at + 1) }
+    ensures { IfSome result (λ place. (place.at < length text.now) × (place.line ≤ place.at + 1)) }
+{
+    let mut place = from;
+    while place.at < text.len() {
+        let mut line = text_words::line_at(text, place.at);
+        if line.words.next().is_some() {
+            return Some(place);
+        }
+        place.at = line.next;
         place.line += 1;
     }
-    place
-}
-
-// Reads the lines of a day from a place on, whose line has this number, up to the first that is wrong.
-pub fn read_lines(text: &[u8], from: usize, line: usize, words: &mut [u32; Day::WORDS]) -> Day
-    requires { (from ≤ length text.now + 1) × (line ≤ from + 1) }
-    ensures rows_bound { (result.rows ≤ 256) × (result.at ≤ length text.now + 1) × (result.line ≤ result.at + 1) }
-    ensures at_in_bounds { (result.wrong ≡ 0 → ⊥) → result.at < length text.now }
-{
-    let mut day = Day {
-        at: from,
-        line: line,
-        stage: Day::FREE,
-        rows: 0,
-        wrong: Numbers::NOTHING,
-    };
-    let mut at = from;
-    while at < text.len() {
-        let ends = text_words::line_at(text, at);
-        let end = ends.end;
-        day = bare_line(&text[at..end], day, words);
-        if day.wrong != Numbers::NOTHING {
-            return day;
-        }
-        at = ends.next;
-        day.at = at;
-        day.line += 1;
-    }
-    day
-}
-
-// What a day lacks that ends here.
-fn missing(stage: u32, rows: usize) -> u32 {
-    if stage == Day::FREE {
-        return Day::NO_FREE;
-    }
-    if stage == Day::PACE {
-        return Day::NO_PACE;
-    }
-    if rows == 0 {
-        return Day::NO_ROWS;
-    }
-    Numbers::NOTHING
-}
-
-// The day after its last line: what is missing, or the end word.
-pub fn finish(day: Day, words: &mut [u32; Day::WORDS]) -> Day
-    requires { day.rows ≤ 256 }
-    ensures { (result.rows ≤ 256) × (result.at ≡ day.at) × (result.line ≡ day.line) }
-{
-    if day.wrong != Numbers::NOTHING {
-        return day;
-    }
-    let rows = day.rows;
-    let wrong = missing(day.stage, rows);
-    if wrong != Numbers::NOTHING {
-        return day.but(wrong);
-    }
-    words[4 * rows + 2] = word_of(7, rows as u32);
-    day
+    None
 }

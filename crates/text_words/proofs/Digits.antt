@@ -3,13 +3,15 @@
 use Prim.Native.Nat.{ℕ, ◌+◌, ◌-◌, ◌*◌, ◌≤◌, ◌<◌}
 use native.Mathlib.Numerals.{add-one}
 use native.Mathlib.Omega.{arith}
-use mathlib.Core.Bool.{true, false, ◌&&◌}
+use mathlib.Core.Bool.{Bool, true, false, ◌&&◌}
 use mathlib.Core.List.{List, [], ◌∷◌}
 use mathlib.Core.Path.{◌≡◌, refl, ap, sym, ◌∙◌}
 use lib.ListN.{length, drop, get_or}
 use lib.Seq.{drop-cons, drop-length}
 use borrow.Author.Tests.{lt-ltb, le-ltb}
-use Rattle.text_words.specs.declared.Number.TheVariants.{Value, Missing, Strange, Large}
+use Rattle.std.specs.Prelude.{Ok, Err}
+use Rattle.text_words.specs.declared.Wrong.TheVariants.{Missing, Strange, Large}
+use Rattle.std.specs.List.{list_all}
 use Rattle.text_words.specs.Numbers.{is_digit, all_digits, decimal, sized, number_of}
 
 split : (w : List ℕ) (i : ℕ) → i < length w → drop i w ≡ get_or w i 0 ∷ drop (i + 1) w
@@ -18,13 +20,10 @@ split w i h = rw add-one (drop-cons w i 0 h)
 ended : (w : List ℕ) (i : ℕ) → i ≡ length w → drop i w ≡ []
 ended w i e = rw e (drop-length w)
 
-pub digits_step : (w : List ℕ) (i : ℕ) → i < length w → all_digits (drop i w) ≡ (is_digit (get_or w i 0) && all_digits (drop (i + 1) w))
+pub digits_all : (w : List ℕ) → all_digits w ≡ list_all is_digit w
 unfolding all_digits
-digits_step w i h = ap all_digits (split w i h)
-
-pub digits_end : (w : List ℕ) (i : ℕ) → i ≡ length w → all_digits (drop i w) ≡ true
-unfolding all_digits
-digits_end w i e = ap all_digits (ended w i e)
+digits_all [] = refl
+digits_all (b ∷ bs) = ap (λ (t : Bool). is_digit b && t) (digits_all bs)
 
 -- One more digit, d.
 pub decimal_step : (v d : ℕ) (w : List ℕ) (i : ℕ) → i < length w → d ≡ get_or w i 0 - 48 → decimal v (drop i w) ≡ decimal (10 * v + d) (drop (i + 1) w)
@@ -41,18 +40,18 @@ unfolding decimal
 decimal_grows v [] = omega arith
 decimal_grows v (b ∷ bs) = omega (arith, decimal_grows (10 * v + (b - 48)) bs)
 
-pub sized_small : (v : ℕ) → v < 536870912 → sized v ≡ Value v
+pub sized_small : (v : ℕ) → v < 536870912 → sized v ≡ Ok v
 sized_small v h = rw (lt-ltb v 536870912 h, sized)
 
-pub sized_large : (v : ℕ) → 536870912 ≤ v → sized v ≡ Large
+pub sized_large : (v : ℕ) → 536870912 ≤ v → sized v ≡ Err Large
 sized_large v h = rw (le-ltb v 536870912 h, sized)
 
-pub number_none : (w : List ℕ) → length w ≡ 0 → number_of w ≡ Missing
+pub number_none : (w : List ℕ) → length w ≡ 0 → number_of w ≡ Err Missing
 unfolding number_of
 number_none [] e = refl
 number_none (b ∷ bs) e = absurd (omega arith)
 
-pub number_strange : (w : List ℕ) → (length w ≡ 0 → ⊥) → all_digits w ≡ false → number_of w ≡ Strange
+pub number_strange : (w : List ℕ) → (length w ≡ 0 → ⊥) → all_digits w ≡ false → number_of w ≡ Err Strange
 unfolding number_of
 number_strange [] h e = absurd (h refl)
 number_strange (b ∷ bs) h e = rw (e, number_of)
