@@ -18,7 +18,6 @@ use Rattle.readers.specs.declared.Given.{Given}
 use Rattle.readers.specs.Reads.{read_by, Gives}
 use Rattle.readers.proofs.Readings.{given_passed}
 use Rattle.postings.specs.Posting.{posting_tests}
-use Rattle.outcomes.specs.declared.VerdictAnswer.{VerdictAnswer}
 use Rattle.outcomes.specs.Outcomes.{verdict_outcome}
 use Rattle.outcomes.specs.Planning.{Planning, planning_in}
 use Rattle.outcomes.specs.Plannable.{Plannable}

@@ -1,11 +1,15 @@
 -- The idle minutes of a posting, by its end: idle and all lengths make up what lies between the free minute and the end, and the lengths of
 -- a posting are those of the rows. Assumes nothing.
-use Prim.Native.Nat.{ℕ, suc, ◌+◌, ◌-◌, ◌≤◌, ◌<◌}
+use Prim.Native.Nat.{ℕ, zero, suc, ◌+◌, ◌*◌, ◌≤◌}
 use native.Mathlib.Omega.{arith}
 use mathlib.Core.Path.{◌≡◌, refl, sym, ap, ◌∙◌, subst}
 use mathlib.Core.List.{List, [], ◌∷◌, Permᴰ}
 use mathlib.Core.Option.{Option, none, some}
-use lib.ListN.{length}
+use lib.ListN.{length, get_or, take, drop}
+use lib.Seq.{drop-cons}
+use Rattle.std.specs.List.{sum}
+use Rattle.std.proofs.lemmas.List.Sums.{sum_by-cons}
+use Rattle.schedule.specs.Limits.{longest_time}
 use Rattle.theory.specs.Jobs.{Job}
 use Rattle.schedule.specs.declared.Profile.TheVariants.{Ordering}
 use Rattle.schedule.specs.Rows.{count_from}
@@ -43,19 +47,21 @@ unfolding lengths_of
 lengths_alone release minutes due [] = refl
 lengths_alone release minutes due (i ∷ is) = omega (arith, lengths_alone release minutes due is)
 
--- What is left to add after row i.
-module _ (job : ℕ → Job) (i n : ℕ) where
-  pub next_length : i < n → lengths_of job (count_from (suc i) (n - i)) ≡
-      (job (i + 1)).length + lengths_of job (count_from (suc (i + 1)) (n - (i + 1)))
-  unfolding lengths_of count_from
-  next_length h =
-      let e : n - i ≡ suc (n - (i + 1)) = omega arith in
-      let f : i + 1 ≡ suc i = omega arith in
-      rw (e, f) refl
+-- Of n rows from row i on: what the library adds up of their part of the column; and no row lasts longer than the longest.
+pub part_lengths : (minutes : List ℕ) (n i : ℕ) → i + n ≤ length minutes →
+    sum (take n (drop i minutes)) ≡ lengths_of (lasting minutes) (count_from i n)
+unfolding lengths_of count_from
+part_lengths minutes zero i h = refl
+part_lengths minutes (suc n) i h =
+    rw (drop-cons minutes i 0 (omega arith))
+    (sum_by-cons (λ x. x) (get_or minutes i 0) (take n (drop (suc i) minutes)) ∙
+    ap (λ (m : ℕ). get_or minutes i 0 + m) (part_lengths minutes n (suc i) (omega arith)))
 
-  pub no_length : i ≡ n → lengths_of job (count_from (suc i) (n - i)) ≡ 0
-  unfolding lengths_of count_from
-  no_length h = let e : n - i ≡ 0 = omega arith in rw e refl
+pub lengths_within : (minutes : List ℕ) (n i : ℕ) → ((k : ℕ) → get_or minutes k 0 ≤ longest_time) →
+    lengths_of (lasting minutes) (count_from i n) ≤ longest_time * n
+unfolding lengths_of count_from
+lengths_within minutes zero i h = omega arith
+lengths_within minutes (suc n) i h = omega (arith, h i, lengths_within minutes n (suc i) h)
 
 -- A verdict whose end, if it tells one, is the minute t, so many idle minutes and so many of all lengths.
 abbrev pub Ends : (t idle lengths : ℕ) → VerdictAnswer → Type 0

@@ -33,13 +33,7 @@ fn times_of(minutes: &[u32; Desk::PLACES], n: usize) -> u32
     requires { (n ≤ most_rows) × ((i : ℕ) → get_or minutes.now i 0 ≤ longest_time) }
     ensures { result ≡ lengths_of (lasting minutes.now) (count_from 1 n) }
 {
-    let mut sum: u32 = 0;
-    let mut i: usize = 0;
-    while i < n {
-        i += 1;
-        sum += minutes[i];
-    }
-    sum
+    minutes[1..=n].iter().sum()
 }
 
 // The idle minutes of a posting of rows 1 to n that ends at a minute: idle and all times make up what lies between the free minute and
@@ -90,8 +84,7 @@ pub fn day_result(book: &[u32], posting: &[u32]) -> DayResult
         opening: 0,
     };
     let given = readers::read(terms, book);
-    let outcome = given.outcome;
-    if let Tested::Refused(_, _) = outcome {
+    if let Tested::Refused(_, _) = given.outcome {
         return DayResult::Refused;
     }
     result_in(

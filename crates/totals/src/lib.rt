@@ -10,7 +10,7 @@ ghost use Rattle.totals.specs.Held.{days, report_by, mean_by, SumsFit};
 use day_result::DayResult;
 
 // The days accepted and refused, those beaten, the idle minutes, and the worst latenesses, each raised by 2^31 before it is added.
-#[derive(Clone, Copy)]
+#[derive(Clone, Copy, Default)]
 pub struct Totals {
     pub accepted: u32,
     pub refused: u32,
@@ -34,27 +34,20 @@ impl Totals {
     pub fn begin() -> Totals
         ensures { (report_by result ≡ report_of []) × SumsFit result × (days result ≡ 0) }
     {
-        Totals {
-            accepted: 0,
-            refused: 0,
-            beaten: 0,
-            idle: 0,
-            late: 0,
-        }
+        Totals::default()
     }
 
-    // An accepted day more, with its idle minutes and its worst lateness.
-    fn with_accepted(self, beaten: u32, idle: u32, late: u32) -> Totals
-        requires { SumsFit self × (days self < 31) × (beaten ≤ 1) }
-        ensures { (result.accepted ≡ suc self.accepted) × (result.refused ≡ self.refused) × (result.beaten ≡ beaten + self.beaten) ×
+    // An accepted day more, with its idle minutes and its worst lateness. That it is beaten is not counted here.
+    fn with_accepted(self, idle: u32, late: u32) -> Totals
+        requires { SumsFit self × (days self < 31) }
+        ensures { (result.accepted ≡ suc self.accepted) × (result.refused ≡ self.refused) × (result.beaten ≡ self.beaten) ×
             (result.idle ≡ idle + self.idle) × (result.late ≡ late + self.late) }
     {
         Totals {
             accepted: self.accepted + 1,
-            refused: self.refused,
-            beaten: self.beaten + beaten,
-            idle: self.idle + idle as u64,
-            late: self.late + late as u64,
+            idle: self.idle + u64::from(idle),
+            late: self.late + u64::from(late),
+            ..self
         }
     }
 
@@ -65,14 +58,17 @@ impl Totals {
     {
         match res {
             DayResult::Refused => Totals {
-                accepted: self.accepted,
                 refused: self.refused + 1,
-                beaten: self.beaten,
-                idle: self.idle,
-                late: self.late,
+                ..self
             },
-            DayResult::Unbeaten(idle, late) => self.with_accepted(0, idle, schedule::raise(late)),
-            DayResult::Beaten(idle, late) => self.with_accepted(1, idle, schedule::raise(late)),
+            DayResult::Unbeaten(idle, late) => self.with_accepted(idle, schedule::raise(late)),
+            DayResult::Beaten(idle, late) => {
+                let accepted = self.with_accepted(idle, schedule::raise(late));
+                Totals {
+                    beaten: accepted.beaten + 1,
+                    ..accepted
+                }
+            }
         }
     }
 
@@ -81,7 +77,7 @@ impl Totals {
         requires { 1 ≤ self.accepted }
         ensures { mean_by result ≡ mean_of (report_by self).late self.accepted }
     {
-        let count = self.accepted as u64;
+        let count = u64::from(self.accepted);
         RaisedMean {
             quotient: self.late / count,
             remainder: self.late % count,

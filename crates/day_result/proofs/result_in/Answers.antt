@@ -11,37 +11,29 @@ verdict_in-verdict-requires c = c.requires
 
 pub idle_by-requires : goal.idle_by-requires
 idle_by-requires c =
-    let v = c.verdict_in-verdict in
-    let sum = own_idle c.args.release.now c.args.minutes.now c.args.due.now c.requires c.args.posting.now
-    v.result _ v.ensures c.in-Unbeaten.is in
+    let sum = own_idle _ _ _ c.requires c.args.posting.now _ _ c.verdict_in-verdict.ensures c.in-Unbeaten.is in
     (c.requires.few, c.requires.limits.lengths, omega (arith, sum))
 
 pub idle_by-requires-in-Beaten : goal.idle_by-requires-in-Beaten
 idle_by-requires-in-Beaten c =
-    let v = c.verdict_in-verdict in
-    let sum = own_idle c.args.release.now c.args.minutes.now c.args.due.now c.requires c.args.posting.now
-    v.result _ v.ensures c.in-Beaten.is in
+    let sum = own_idle _ _ _ c.requires c.args.posting.now _ _ c.verdict_in-verdict.ensures c.in-Beaten.is in
     (c.requires.few, c.requires.limits.lengths, omega (arith, sum))
 
 pub returns-in-Refused : goal.returns-in-Refused
 unfolding result_of
 returns-in-Refused c =
-    let v = c.verdict_in-verdict in
-    idle_found c.args.release.now c.args.minutes.now c.args.due.now c.requires c.args.posting.now
-    v.result _ v.ensures c.in-Refused.is 0 tt
+    idle_found _ _ _ c.requires c.args.posting.now _ _ c.verdict_in-verdict.ensures c.in-Refused.is 0 tt
 
 pub returns-in-Unbeaten : goal.returns-in-Unbeaten
 unfolding result_of
 returns-in-Unbeaten c =
-    let v = c.verdict_in-verdict in
-    let e = idle_found c.args.release.now c.args.minutes.now c.args.due.now c.requires c.args.posting.now
-    v.result _ v.ensures c.in-Unbeaten.is c.idle_by.result c.idle_by.ensures in
+    let e = idle_found _ _ _ c.requires c.args.posting.now _ _ c.verdict_in-verdict.ensures c.in-Unbeaten.is
+    c.idle_by.result c.idle_by.ensures in
     search rules
 
 pub returns-in-Beaten : goal.returns-in-Beaten
 unfolding result_of
 returns-in-Beaten c =
-    let v = c.verdict_in-verdict in
-    let e = idle_found c.args.release.now c.args.minutes.now c.args.due.now c.requires c.args.posting.now
-    v.result _ v.ensures c.in-Beaten.is c.idle_by-in-Beaten.result c.idle_by-in-Beaten.ensures in
+    let e = idle_found _ _ _ c.requires c.args.posting.now _ _ c.verdict_in-verdict.ensures c.in-Beaten.is
+    c.idle_by-in-Beaten.result c.idle_by-in-Beaten.ensures in
     search rules

@@ -1,29 +1,23 @@
--- `times_of` meets its contract. The invariant: the sum so far, with the lengths of the rows that are left, is that of all. The measure is
--- the rows that are left. Assumes nothing.
+-- `times_of` meets its contract: the chain adds up the lengths of rows 1 to n.
+-- Assumes nothing.
 use borrow.Author.Rules.{rules}
-use Prim.Native.Nat.{◌≤◌, ◌+◌, ◌*◌, ◌-◌}
-use mathlib.Core.Path.{◌≡◌}
+use Prim.Native.Nat.{◌<◌}
+use mathlib.Core.Path.{◌≡◌, ◌∙◌}
 use native.Mathlib.Omega.{arith}
-use Rattle.day_result.specs.Lasting.{lasting}
-use Rattle.day_result.proofs.Idle.{next_length, no_length}
+use lib.ListN.{take, drop}
+use Rattle.std.specs.List.{sum}
+use Rattle.day_result.proofs.Idle.{part_lengths, lengths_within}
 use Rattle.day_result.proofs.times_of.Goals as goal
 
-pub loop-i-init : goal.loop-i-init
-loop-i-init c =
-    let n = c.args.n in
-    let e : n - 0 ≡ n = omega arith in
-    (search rules, rw e (omega arith), search rules)
-
-pub overflow_add-sum : goal.overflow_add-sum
-overflow_add-sum c = record { fits = omega (arith, c.requires.1 (c.loop-i.i + 1)) }
-
-pub loop-i-preserved : goal.loop-i-preserved
-loop-i-preserved c =
-    let l = c.loop-i in
-    let n = next_length (lasting c.args.minutes.now) l.i c.args.n (omega arith) in
-    (search rules, omega (arith, n, l.invariant.1), omega (arith, c.requires.1 (l.i + 1)))
+pub sum-requires-clause-fits : goal.sum-requires-clause-fits
+sum-requires-clause-fits c =
+    let a = c.args in
+    let small : sum (take a.n (drop 1 a.minutes.now)) < 4294967296 =
+    omega (arith, part_lengths a.minutes.now a.n 1 (omega arith), lengths_within a.minutes.now a.n 1 c.requires.1) in
+    search rules
 
 pub returns : goal.returns
 returns c =
-    let l = c.loop-i in
-    omega (arith, no_length (lasting c.args.minutes.now) l.i c.args.n (omega arith), l.invariant.1)
+    let a = c.args in
+    let e : c.sum.result ≡ sum (take a.n (drop 1 a.minutes.now)) = search rules in
+    e ∙ part_lengths a.minutes.now a.n 1 (omega arith)

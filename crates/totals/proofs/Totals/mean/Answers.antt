@@ -5,4 +5,4 @@ use Rattle.totals.proofs.Totals.mean.Goals as goal
 
 pub returns : goal.returns
 returns c =
-    raised_mean c.args.self.late c.args.self.accepted c.requires
+    rw c.from-count.ensures (raised_mean c.args.self.late c.args.self.accepted c.requires)
