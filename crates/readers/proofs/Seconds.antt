@@ -1,6 +1,6 @@
 -- The column of second numbers, row by row; and what it tells, beside the dues, of rows that have the jobs.
 -- Assumes nothing.
-use Prim.Native.Nat.{ℕ, ◌+◌, ◌≤◌, ◌<◌}
+use Prim.Native.Nat.{ℕ, ◌-◌, ◌≤◌, ◌<◌}
 use native.Mathlib.Omega.{arith}
 use native.Mathlib.Decide.{dec_le}
 use mathlib.Core.Path.{◌≡◌, ap, subst, ◌∙◌}
@@ -28,17 +28,16 @@ module _ (profile : Profile) (jobs : ℕ → Job) where
   pub held_none : Held profile jobs 0 (replicate row_places 0)
   held_none = record { places = length-replicate {A = ℕ} row_places 0; second_at = λ j l m. let x : ⊥ = omega arith in absurd x }
 
-  pub held_on : (n : ℕ) (seconds : List ℕ) → n < most_rows → Held profile jobs n seconds →
-      Held profile jobs (n + 1) (set seconds (n + 1) (second_by profile (jobs (n + 1))))
-  held_on n seconds room h = record { places = simp length-set h.places; second_at = λ j l m. at j l m (dec_le (n + 1) j) }
+  pub held_at : (i : ℕ) (seconds : List ℕ) → 1 ≤ i → i ≤ most_rows → Held profile jobs (i - 1) seconds →
+      Held profile jobs i (set seconds i (second_by profile (jobs i)))
+  held_at i seconds some room h = record { places = simp length-set h.places; second_at = λ j l m. at j l m (dec_le i j) }
     where
-      at : (j : ℕ) → 1 ≤ j → j ≤ n + 1 → Dec (n + 1 ≤ j) → get_or (set seconds (n + 1) (second_by profile (jobs (n + 1)))) j 0 ≡ second_by
-          profile (jobs j)
+      at : (j : ℕ) → 1 ≤ j → j ≤ i → Dec (i ≤ j) → get_or (set seconds i (second_by profile (jobs i))) j 0 ≡ second_by profile (jobs j)
       at j l m (yes g) =
-          let same : n + 1 ≡ j = omega arith in
-          let inside : n + 1 < length seconds = omega (arith, h.places) in
-          rw (← same) (get_or-set_same seconds (n + 1) (second_by profile (jobs (n + 1))) 0 inside)
-      at j l m (no g) = get_or-set_other seconds (n + 1) j (second_by profile (jobs (n + 1))) 0 (λ e. omega arith)
+          let same : i ≡ j = omega arith in
+          let inside : i < length seconds = omega (arith, h.places) in
+          rw (← same) (get_or-set_same seconds i (second_by profile (jobs i)) 0 inside)
+      at j l m (no g) = get_or-set_other seconds i j (second_by profile (jobs i)) 0 (λ e. omega arith)
           ∙ h.second_at j l (omega arith)
 
 -- Dues and second numbers tell which rows clash.

@@ -1,14 +1,15 @@
 -- The column of times, row by row; and rows in columns with it: what planning sees of the rows.
 -- Assumes nothing.
-use Prim.Native.Nat.{ℕ, zero, suc, ◌+◌, ◌≤◌, ◌<◌}
+use Prim.Native.Nat.{ℕ, zero, suc, ◌+◌, ◌-◌, ◌≤◌, ◌<◌}
+use borrow.Author.Rules.{rules}
+use borrow.Rule.Slice.PartMut.{mid_of, put_mid, same_len_mid}
+use Rattle.std.proofs.lemmas.List.{places}
 use native.Mathlib.Omega.{arith}
 use native.Mathlib.Decide.{dec_le}
-use mathlib.Core.Path.{◌≡◌, refl, ap, ◌∙◌, subst}
+use mathlib.Core.Path.{◌≡◌, ap, ◌∙◌}
 use mathlib.Core.List.{List}
-use lib.ListN.{length, set, length-set}
-use lib.Seq.{get_or-set_same, get_or-set_other}
+use lib.ListN.{length}
 use Rattle.theory.specs.Jobs.{Job}
-use Rattle.schedule.specs.Limits.{most_rows, row_places}
 use Rattle.schedule.specs.declared.Row.{Row}
 use Rattle.schedule.specs.Rows.{job, with_opening}
 use Rattle.schedule.specs.Columns.{at}
@@ -17,36 +18,26 @@ use Rattle.rows.specs.InColumns.{Within, jobs_of, InColumns}
 use Rattle.readers.specs.Times.{Timed}
 use Rattle.readers.proofs.Readings.{SeenIn}
 
--- No row has its time yet,
-pub timed_none : (opening : ℕ) (lengths : List ℕ) → Timed opening 0 lengths lengths
-timed_none opening lengths =
-    record { sized = refl; added = λ i l m. let z : ⊥ = omega arith in absurd z; no_row = refl; past = λ i h. refl }
+-- The part of the column that holds the first n rows is put back with the opening added to each of its numbers.
+module _ (opening n size : ℕ) (lengths part : List ℕ) (all : size ≡ n) (inside : n + 1 ≤ length lengths)
+    (sized : length part ≡ length (mid_of 1 size lengths))
+    (added : (k : ℕ) → k < length (mid_of 1 size lengths) → at part k ≡ opening + at (mid_of 1 size lengths) k) where
+  long : length (mid_of 1 size lengths) ≡ n
+  long = search (rules, places)
 
--- and one row more.
-module _ (opening k : ℕ) (lengths times : List ℕ) (wide : length lengths ≡ row_places) (room : k < most_rows)
-    (t : Timed opening k lengths times) where
-  abbrev time : ℕ
-  time = opening + at times (k + 1)
-
-  other : (i : ℕ) → (i ≡ k + 1 → ⊥) → at (set times (k + 1) time) i ≡ at times i
-  other i n = get_or-set_other times (k + 1) i time 0 n
-
-  here : at (set times (k + 1) time) (k + 1) ≡ opening + at lengths (k + 1)
-  here = get_or-set_same times (k + 1) time 0 (omega (arith, t.sized)) ∙ ap (λ (x : ℕ). opening + x) (t.past (k + 1) (omega arith))
-
-  pub timed_on : Timed opening (k + 1) lengths (set times (k + 1) time)
-  timed_on = record {
-    sized = simp length-set t.sized;
-    added = λ i l m. at_row i l m (dec_le i k);
-    no_row = other 0 (λ e. omega arith) ∙ t.no_row;
-    past = λ i h. other i (λ e. omega arith) ∙ t.past i (omega arith);
+  pub timed : Timed opening n lengths (put_mid 1 size lengths part)
+  timed = record {
+    sized = same_len_mid 1 size lengths part sized;
+    added = at_row;
+    no_row = search (rules, places);
+    past = λ i h. search (rules, places, long);
   }
     where
-      at_row : (i : ℕ) → 1 ≤ i → i ≤ k + 1 → Dec (i ≤ k) → at (set times (k + 1) time) i ≡ opening + at lengths i
-      at_row i l m (yes h) = other i (λ e. omega arith) ∙ t.added i l h
-      at_row i l m (no h) =
-          let e : k + 1 ≡ i = omega arith in
-          subst (λ (j : ℕ). at (set times (k + 1) time) j ≡ opening + at lengths j) e here
+      at_row : (i : ℕ) → 1 ≤ i → i ≤ n → at (put_mid 1 size lengths part) i ≡ opening + at lengths i
+      at_row i l m =
+          let there : at (put_mid 1 size lengths part) i ≡ at part (i - 1) = search (rules, places, long) in
+          let own : at (mid_of 1 size lengths) (i - 1) ≡ at lengths i = search (rules, places, long) in
+          there ∙ rw own at (added (i - 1) (omega (arith, long)))
 
 -- The columns of a table's rows, with their times in the place of their lengths.
 module _ (opening : ℕ) (rows : List Row) (c : Columns) (columned : InColumns (job rows) (length rows) c) (times : List ℕ)

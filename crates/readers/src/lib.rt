@@ -68,10 +68,8 @@ pub fn rule_tests<'a>(
         × ((i : ℕ) → Within latest_minute longest_time latest_due (columns release.now minutes.now due.now i)) }
     ensures { JobsTested profile (columns release.now minutes.now due.now) count result }
 {
-    let mut seconds: [u32; Desk::PLACES] = [0; Desk::PLACES];
-    let mut i = 0;
-    while i < count {
-        i += 1;
+    let mut seconds = [0; Desk::PLACES];
+    for i in 1..=count {
         seconds[i] = second_of(profile, release[i], minutes[i], due[i]);
     }
     pairs::pair_tests(due, &seconds, count, number_of(profile))
@@ -83,10 +81,8 @@ fn add_opening(opening: u32, minutes: &mut [u32; Desk::PLACES], n: usize)
         × ((i : ℕ) → at minutes.old i ≤ longest_length) }
     ensures { Timed opening n minutes.old minutes.new }
 {
-    let mut i = 0;
-    while i < n {
-        i += 1;
-        minutes[i] = opening + minutes[i];
+    for time in &mut minutes[1..=n] {
+        *time += opening;
     }
 }
 

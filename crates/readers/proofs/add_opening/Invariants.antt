@@ -1,11 +1,12 @@
--- `add_opening` meets its contract: rows 1 to i have their times.
+-- `add_opening` meets its contract: the first rows have their times, and the others their lengths.
 -- Assumes nothing.
-use Prim.Native.Nat.{◌-◌, ◌≤◌}
-use Rattle.readers.specs.Times.{Timed}
+use Prim.Native.Nat.{ℕ, ◌+◌, ◌≤◌, ◌<◌}
+use mathlib.Core.Path.{◌≡◌}
+use Rattle.schedule.specs.Columns.{at}
 use Rattle.readers.proofs.add_opening.Given as goal
 
-abbrev pub invariant-loop-i : goal.invariant-loop-i
-invariant-loop-i l = (l.i ≤ l.n) × Timed l.opening l.i l.initial.minutes l.minutes
-
-abbrev pub decreases-loop-i : goal.decreases-loop-i
-decreases-loop-i l = l.n - l.i
+abbrev pub invariant-loop-time : goal.invariant-loop-time
+invariant-loop-time l = record {
+  added : (k : ℕ) → k < l.time-index → at l.time-items k ≡ l.opening + at l.initial.time-items k;
+  past : (k : ℕ) → l.time-index ≤ k → at l.time-items k ≡ at l.initial.time-items k;
+}
