@@ -11,6 +11,7 @@ use lib.IntN.{ℤ}
 use mir.Syntax.{w32}
 use mir.Val.{SFits, to_z, of_z}
 use mir.ValLaws.{to_z-of_z}
+use Rattle.std.specs.Prelude.{Ok, Err}
 use Rattle.theory.specs.Jobs.{Job}
 use Rattle.schedule.specs.declared.Desk.{Desk}
 use Rattle.schedule.specs.declared.Profile.{Profile}
@@ -19,8 +20,8 @@ use Rattle.schedule.specs.Plans.{beats, first_beating}
 use Rattle.schedule.specs.Offset.{raised, lowered}
 use Rattle.schedule.proofs.SignedWords.{lowered_raised}
 use Rattle.schedule.proofs.Numbers.{length_count}
-use Rattle.refusals.specs.declared.Tested.TheVariants as tested
 use Rattle.refusals.proofs.Tests.{never}
+use Rattle.refusals.specs.Tests.{refusal_at}
 use Rattle.postings.specs.Posting.{posting_tests}
 use Rattle.listing.specs.declared.Planned.{Planned}
 use Rattle.listing.specs.declared.Planned.TheVariants.{Kept, Unkept}
@@ -30,18 +31,16 @@ use Rattle.listing.specs.Fronts.{pair_at, held, Sized, HoldsPlans}
 use Rattle.listing.proofs.Fronts.{held_at, plans_sized, plans_held}
 use Rattle.arrival.specs.Given.{written_of, OrderGiven, Followed}
 use Rattle.results.specs.Results.{written, plan_words, or_zero}
-use Rattle.outcomes.specs.declared.ListAnswer.TheVariants as list-answer
-use Rattle.outcomes.specs.declared.OrderAnswer.{OrderAnswer}
-use Rattle.outcomes.specs.declared.OrderAnswer.TheVariants as order-answer
-use Rattle.outcomes.specs.declared.VerdictAnswer.{VerdictAnswer}
-use Rattle.outcomes.specs.declared.VerdictAnswer.TheVariants as verdict-answer
-use Rattle.outcomes.specs.Outcomes.{judged_of, list_outcome, order_outcome, plan_outcome, verdict_outcome}
+use Rattle.outcomes.specs.Outcomes.{OrderAnswer, judged_of, list_outcome, order_outcome, plan_outcome, verdict_outcome}
 use Rattle.outcomes.specs.Planning.{Outcome, gives, nth, Planning, planning_in}
 use Rattle.outcomes.specs.Plannable.{Plannable}
 use Rattle.outcomes.proofs.OutcomeLaws.{list_narrow, list_is, plan_is, plan_unlisted, verdict_no, verdict_is}
 use Rattle.outcomes.proofs.OutcomeLaws.{order_narrow, order_some, order_none}
 use Rattle.outcomes.proofs.Plans.{nth_in, nth_zero, nth_out}
 use Rattle.outcomes.proofs.Columns.{sound_in, order_lowers, plan_lowers, posting_order, posting_length}
+use Rattle.outcomes.specs.declared.Verdict.{Verdict}
+use Rattle.outcomes.specs.declared.Verdict.TheVariants as verdict
+use Rattle.refusals.specs.declared.Refusal.{Refusal}
 
 -- The signed bound that a caller raises comes back.
 pub bound_back : (y : ℤ) (n : ℕ) → SFits w32 y → n ≡ raised (to_z w32 (of_z w32 y)) → lowered n ≡ y
@@ -63,20 +62,20 @@ module _ {profile : Profile} {job : ℕ → Job} {t n : ℕ} (p : Plannable prof
     front_held = plans_held g.plans n f h (plan_lowers p)
 
     pub list_done : (b after : List ℕ) → 2 * n ≤ length b → after ≡ written (plan_words (held f)) b →
-        gives (list-answer.Plans f.count) after ≡ list_outcome g b
+        gives (Ok f.count) after ≡ list_outcome g b
     list_done b after wide e =
-        (λ x. gives (list-answer.Plans (h.counted x)) ((e ∙ ap (λ (ps : List Pair). written (plan_words ps) b) front_held) x)) ∙
+        (λ x. gives (Ok (h.counted x)) ((e ∙ ap (λ (ps : List Pair). written (plan_words ps) b) front_held) x)) ∙
         sym (list_is g b (omega (arith, rows_length)))
 
     -- The order of a listed plan.
-    pub plan_none : (k : ℕ) → k ≡ 0 → (b : List ℕ) → gives (order-answer.Refused 11 f.count) b ≡ plan_outcome g k b
+    pub plan_none : (k : ℕ) → k ≡ 0 → (b : List ℕ) → gives (Err (refusal_at 11 f.count)) b ≡ plan_outcome g k b
     plan_none k z b =
-        ap (λ (m : ℕ). gives (order-answer.Refused 11 m) b) h.counted ∙
+        ap (λ (m : ℕ). gives (Err (refusal_at 11 m)) b) h.counted ∙
         sym (plan_unlisted g k b (ap (λ (k : ℕ). nth g.plans k) z ∙ nth_zero g.plans))
 
-    pub plan_past : (k : ℕ) → f.count < k → (b : List ℕ) → gives (order-answer.Refused 11 f.count) b ≡ plan_outcome g k b
+    pub plan_past : (k : ℕ) → f.count < k → (b : List ℕ) → gives (Err (refusal_at 11 f.count)) b ≡ plan_outcome g k b
     plan_past k l b =
-        ap (λ (m : ℕ). gives (order-answer.Refused 11 m) b) h.counted ∙
+        ap (λ (m : ℕ). gives (Err (refusal_at 11 m)) b) h.counted ∙
         sym (plan_unlisted g k b (nth_out g.plans k (omega (arith, h.counted))))
 
     pub plan_done : (k : ℕ) → 1 ≤ k → k ≤ f.count → (b : List ℕ) (o : Outcome OrderAnswer) →
@@ -89,26 +88,25 @@ module _ {profile : Profile} {job : ℕ → Job} {t n : ℕ} (p : Plannable prof
         e ∙ sym (plan_is g k q b (there ∙ ap some it))
 
     -- The verdict.
-    pub verdict_done : (posting : List ℕ) → posting_tests n posting ≡ tested.Passed → (desk : Desk) → Followed job t posting desk →
-        (v : VerdictAnswer) → v ≡
+    pub verdict_done : (posting : List ℕ) → posting_tests n posting ≡ Ok tt → (desk : Desk) → Followed job t posting desk →
+        (v : Verdict) → v ≡
         judged_of (pair_at desk.minute desk.worst) (first_beating 1 (held f) (pair_at desk.minute desk.worst)) →
-        v ≡ verdict_outcome g posting
+        Ok v ≡ verdict_outcome g posting
     verdict_done posting passed desk d v r =
         let some_row : 1 ≤ length posting = omega (arith, posting_length p posting passed, p.low) in
         let late = ap lowered (d.late some_row) ∙ order_lowers p posting (posting_order p posting passed) in
         let pair : pair_at desk.minute desk.worst ≡ pair_of job t posting = λ x. record { end = d.end x; late = late x } in
-        r ∙ ((λ x. judged_of (pair x) (first_beating 1 (front_held x) (pair x))) ∙
-        sym (verdict_is g posting (subst (λ (m : ℕ). posting_tests m posting ≡ tested.Passed) (sym rows_length) passed)))
+        ap Ok r ∙ ((λ x. Ok (judged_of (pair x) (first_beating 1 (front_held x) (pair x)))) ∙
+        sym (verdict_is g posting (subst (λ (m : ℕ). posting_tests m posting ≡ Ok tt) (sym rows_length) passed)))
 
-  pub list_short : (b : List ℕ) → length b < 2 * n → gives (list-answer.Refused 9 0) b ≡ list_outcome g b
+  pub list_short : (b : List ℕ) → length b < 2 * n → gives (Err (refusal_at 9 0)) b ≡ list_outcome g b
   list_short b h = sym (list_narrow g b (omega (arith, rows_length)))
 
-  pub verdict_stray : (posting : List ℕ) (m q : ℕ) → posting_tests n posting ≡ tested.Refused m q →
-      verdict-answer.Refused m q ≡ verdict_outcome g posting
-  verdict_stray posting m q e =
-      sym (verdict_no g posting m q (subst (λ (k : ℕ). posting_tests k posting ≡ tested.Refused m q) (sym rows_length) e))
+  pub verdict_stray : (posting : List ℕ) (refusal : Refusal) → posting_tests n posting ≡ Err refusal → Err refusal ≡ verdict_outcome g posting
+  verdict_stray posting refusal e =
+      sym (verdict_no g posting refusal (subst (λ (k : ℕ). posting_tests k posting ≡ Err refusal) (sym rows_length) e))
 
-  pub order_short : (y : ℤ) (b : List ℕ) → length b < n → gives (order-answer.Refused 9 0) b ≡ order_outcome g y b
+  pub order_short : (y : ℤ) (b : List ℕ) → length b < n → gives (Err (refusal_at 9 0)) b ≡ order_outcome g y b
   order_short y b h = sym (order_narrow g y b (omega (arith, rows_length)))
 
   -- The order that is written is the one for the bound.
@@ -118,17 +116,17 @@ module _ {profile : Profile} {job : ℕ → Job} {t n : ℕ} (p : Plannable prof
     y = lowered bound
 
     unkept_by : (o : Option (List ℕ)) → g.orders y ≡ o → planned_of job t o ≡ Unkept →
-        gives (order-answer.Refused 12 0) (written_of o b) ≡ order_outcome g y b
+        gives (Err (refusal_at 12 0)) (written_of o b) ≡ order_outcome g y b
     unfolding planned_of written_of
     unkept_by none f u = sym (order_none g y b (omega (arith, rows_length)) f)
     unkept_by (some order) f u = never (cc)
 
-    pub order_unkept : answer ≡ Unkept → gives (order-answer.Refused 12 0) after ≡ order_outcome g y b
-    order_unkept u = ap (λ (w : List ℕ). gives (order-answer.Refused 12 0) w) r.buffer ∙
+    pub order_unkept : answer ≡ Unkept → gives (Err (refusal_at 12 0)) after ≡ order_outcome g y b
+    order_unkept u = ap (λ (w : List ℕ). gives (Err (refusal_at 12 0)) w) r.buffer ∙
         unkept_by (g.orders y) refl (sym r.answered ∙ u)
 
     kept_by : (o : Option (List ℕ)) → g.orders y ≡ o → (end late : ℕ) → planned_of job t o ≡ Kept end late →
-        gives (order-answer.Pair end (lowered late)) (written_of o b) ≡ order_outcome g y b
+        gives (Ok (record { end = end; late = lowered late })) (written_of o b) ≡ order_outcome g y b
     unfolding planned_of written_of written
     kept_by none f end late k = never (cc)
     kept_by (some order) f end late k =
@@ -136,11 +134,11 @@ module _ {profile : Profile} {job : ℕ → Job} {t n : ℕ} (p : Plannable prof
         let l : raised (pair_of job t order).late ≡ late = cc in
         let o = ((sound_in p).promise.best y order f).0 in
         let z : lowered late ≡ (pair_of job t order).late = ap lowered (sym l) ∙ order_lowers p order o in
-        (λ x. gives (order-answer.Pair (sym e x) (z x)) (order ++ drop (length order) b)) ∙
+        (λ x. gives (Ok (record { end = sym e x; late = z x })) (order ++ drop (length order) b)) ∙
         sym (order_some g y b (omega (arith, rows_length)) order f)
 
-    pub order_kept : (end late : ℕ) → answer ≡ Kept end late → gives (order-answer.Pair end (lowered late)) after ≡ order_outcome g y b
-    order_kept end late k = ap (λ (w : List ℕ). gives (order-answer.Pair end (lowered late)) w) r.buffer ∙
+    pub order_kept : (end late : ℕ) → answer ≡ Kept end late → gives (Ok (record { end = end; late = lowered late })) after ≡ order_outcome g y b
+    order_kept end late k = ap (λ (w : List ℕ). gives (Ok (record { end = end; late = lowered late })) w) r.buffer ∙
         kept_by (g.orders y) refl end late (sym r.answered ∙ k)
 
 -- A number from 1 on is never 0: so 0 says that there is none.
@@ -154,22 +152,22 @@ beating_from k (p ∷ ps) q h n e = go (beats p q) e (beating_from (suc k) ps q 
     go false e f = f e
 
 module _ (ps : List Pair) (q : Pair) (late : ℤ) (k : ℕ) (y : late ≡ q.late) (e : k ≡ or_zero (first_beating 1 ps q)) where
-  pub judge_none : k ≡ 0 → verdict-answer.Unbeaten q.end late ≡ judged_of q (first_beating 1 ps q)
+  pub judge_none : k ≡ 0 → verdict.Unbeaten q.end late ≡ judged_of q (first_beating 1 ps q)
   unfolding judged_of
   judge_none z = go (first_beating 1 ps q) refl
     where
-      go : (o : Option ℕ) → first_beating 1 ps q ≡ o → verdict-answer.Unbeaten q.end late ≡ judged_of q o
-      go none f = ap (verdict-answer.Unbeaten q.end) y
+      go : (o : Option ℕ) → first_beating 1 ps q ≡ o → verdict.Unbeaten q.end late ≡ judged_of q o
+      go none f = ap (verdict.Unbeaten q.end) y
       go (some n) f =
           let l = beating_from 1 ps q (omega arith) n f in
           let m : k ≡ n = e ∙ ap or_zero f in
           let x : ⊥ = omega arith in
           absurd x
 
-  pub judge_some : (k ≡ 0 → ⊥) → verdict-answer.Beaten q.end late k ≡ judged_of q (first_beating 1 ps q)
+  pub judge_some : (k ≡ 0 → ⊥) → verdict.Beaten q.end late k ≡ judged_of q (first_beating 1 ps q)
   unfolding judged_of
   judge_some z = go (first_beating 1 ps q) refl
     where
-      go : (o : Option ℕ) → first_beating 1 ps q ≡ o → verdict-answer.Beaten q.end late k ≡ judged_of q o
+      go : (o : Option ℕ) → first_beating 1 ps q ≡ o → verdict.Beaten q.end late k ≡ judged_of q o
       go none f = absurd (z (e ∙ ap or_zero f))
-      go (some n) f = λ x. verdict-answer.Beaten q.end (y x) ((e ∙ ap or_zero f) x)
+      go (some n) f = λ x. verdict.Beaten q.end (y x) ((e ∙ ap or_zero f) x)

@@ -1,6 +1,6 @@
 -- What is planned of rows that can be planned, as those in columns, and that jobs which are the same on the rows give the same outcomes.
 -- Assumes nothing.
-use Prim.Native.Nat.{ℕ, zero, suc, ◌-◌, ◌*◌, ◌≤◌, ◌<◌}
+use Prim.Native.Nat.{ℕ, zero, suc, ◌*◌, ◌≤◌, ◌<◌}
 use native.Mathlib.Omega.{arith}
 use native.Mathlib.Decide.{dec_le}
 use mathlib.Core.Path.{◌≡◌, refl, sym, ap, ◌∙◌, subst}
@@ -8,6 +8,7 @@ use mathlib.Core.List.{List, [], ◌∷◌, Memᴰ}
 use mathlib.Core.Option.{Option, none, some}
 use lib.ListN.{length, get_or}
 use lib.IntN.{ℤ}
+use Rattle.std.specs.Prelude.{Ok, Err}
 use Rattle.theory.specs.Jobs.{Job}
 use Rattle.schedule.specs.Limits.{most_rows, latest_end, longest_time, latest_due}
 use Rattle.schedule.specs.declared.Profile.{Profile}
@@ -20,13 +21,10 @@ use Rattle.schedule.proofs.Numbers.{length_count, count_range}
 use Rattle.schedule.proofs.Ranges.{fits_32}
 use Rattle.schedule.proofs.Profiles.{profiles_promised}
 use Rattle.schedule.proofs.SameJobs.{same_pair, same_list, same_order}
-use Rattle.refusals.specs.declared.Tested.{Tested}
-use Rattle.refusals.specs.declared.Tested.TheVariants as tested
+use Rattle.refusals.specs.Tests.{Tested, refusal_at}
 use Rattle.postings.specs.Posting.{posting_tests}
 use Rattle.search.proofs.Signs.{late_lowers}
 use Rattle.results.specs.Results.{written, plan_words}
-use Rattle.outcomes.specs.declared.ListAnswer.TheVariants as list-answer
-use Rattle.outcomes.specs.declared.OrderAnswer.TheVariants as order-answer
 use Rattle.outcomes.specs.Outcomes.{judged_of, list_outcome, order_outcome, plan_outcome, verdict_outcome}
 use Rattle.outcomes.specs.Planning.{gives, nth, Planning, planning_in}
 use Rattle.outcomes.specs.Plannable.{Plannable}
@@ -74,7 +72,7 @@ module _ {profile : Profile} {job : ℕ → Job} {t n : ℕ} (p : Plannable prof
   few_plans = let s = sound_in in rw s.front (omega (arith, s.promise.few.1, length_count 1 n))
 
   -- The entries of a posting that passed its tests are rows.
-  module _ (posting : List ℕ) (passed : posting_tests n posting ≡ tested.Passed) where
+  module _ (posting : List ℕ) (passed : posting_tests n posting ≡ Ok tt) where
     pub posting_order : OrderOf rows posting
     posting_order = (posted n posting).0 passed
 
@@ -109,7 +107,7 @@ module _ {profile : Profile} {job job' : ℕ → Job} {t n : ℕ} (p : Plannable
     where
       step : Dec (2 * length g.left ≤ length b) → list_outcome g b ≡ list_outcome g' b
       step (yes h) =
-          list_is g b h ∙ ap (λ (ps : List Pair). gives (list-answer.Plans (length ps)) (written (plan_words ps) b)) plans_same ∙
+          list_is g b h ∙ ap (λ (ps : List Pair). gives (Ok (length ps)) (written (plan_words ps) b)) plans_same ∙
           sym (list_is g' b h)
       step (no h) = list_narrow g b (omega arith) ∙ sym (list_narrow g' b (omega arith))
 
@@ -124,7 +122,7 @@ module _ {profile : Profile} {job job' : ℕ → Job} {t n : ℕ} (p : Plannable
       found h (some order) e =
           let o = ((sound_in p).promise.best y order e).0 in
           order_some g y b h order e ∙
-          ap (λ (q : Pair). gives (order-answer.Pair q.end q.late) (written order b)) (order_same order o) ∙
+          ap (λ (q : Pair). gives (Ok (record { end = q.end; late = q.late })) (written order b)) (order_same order o) ∙
           sym (order_some g' y b h order (orders (some order) e))
 
       step : Dec (length g.left ≤ length b) → order_outcome g y b ≡ order_outcome g' y b
@@ -139,7 +137,7 @@ module _ {profile : Profile} {job job' : ℕ → Job} {t n : ℕ} (p : Plannable
 
       step : (o : Option Pair) → nth g.plans k ≡ o → plan_outcome g k b ≡ plan_outcome g' k b
       step none e =
-          plan_unlisted g k b e ∙ ap (λ (ps : List Pair). gives (order-answer.Refused 11 (length ps)) b) plans_same ∙
+          plan_unlisted g k b e ∙ ap (λ (ps : List Pair). gives (Err (refusal_at 11 (length ps))) b) plans_same ∙
           sym (plan_unlisted g' k b (there none e))
       step (some q) e = plan_is g k q b e ∙ same_ordered q.late b ∙ sym (plan_is g' k q b (there (some q) e))
 
@@ -147,8 +145,8 @@ module _ {profile : Profile} {job job' : ℕ → Job} {t n : ℕ} (p : Plannable
   same_judged posting = step (posting_tests (length g.left) posting) refl
     where
       step : (r : Tested) → posting_tests (length g.left) posting ≡ r → verdict_outcome g posting ≡ verdict_outcome g' posting
-      step tested.Passed e =
-          let o = posting_order p posting (subst (λ (m : ℕ). posting_tests m posting ≡ tested.Passed) (length_count 1 n) e) in
+      step (Ok _) e =
+          let o = posting_order p posting (subst (λ (m : ℕ). posting_tests m posting ≡ Ok tt) (length_count 1 n) e) in
           let q = order_same posting o in
-          verdict_is g posting e ∙ (λ x. judged_of (q x) (first_beating 1 (plans_same x) (q x))) ∙ sym (verdict_is g' posting e)
-      step (tested.Refused m q) e = verdict_no g posting m q e ∙ sym (verdict_no g' posting m q e)
+          verdict_is g posting e ∙ (λ x. Ok (judged_of (q x) (first_beating 1 (plans_same x) (q x)))) ∙ sym (verdict_is g' posting e)
+      step (Err refusal) e = verdict_no g posting refusal e ∙ sym (verdict_no g' posting refusal e)

@@ -4,13 +4,13 @@ use Prim.Native.Nat.{ℕ}
 use mathlib.Core.Path.{◌≡◌}
 use mathlib.Core.List.{List}
 use mathlib.Core.Logic.{◌↔◌}
+use Rattle.std.specs.Prelude.{Ok}
 use Rattle.schedule.specs.Rows.{count_from}
 use Rattle.schedule.specs.Desk.{OrderOf}
 use Rattle.schedule.specs.Plans.{plans}
 use Rattle.schedule.specs.Cover.{Fits32, PlansPromise}
 use Rattle.schedule.proofs.Orders.{perm_orders, orders_perm, orders_length}
 use Rattle.schedule.proofs.Numbers.{length_count}
-use Rattle.refusals.specs.declared.Tested.TheVariants as tested
 use Rattle.postings.specs.Posting.{posting_tests}
 use Rattle.postings.proofs.Orders.{posting_order, order_posting}
 use Rattle.outcomes.specs.Planning.{Planning}
@@ -22,7 +22,7 @@ pub record Sound (g : Planning) : Type 0 where
   pub promise : PlansPromise g.job g.minute g.left g.orders
 
 -- A posting passes its tests exactly if it is an order of the rows 1 to n.
-pub posted : (n : ℕ) (posting : List ℕ) → (posting_tests n posting ≡ tested.Passed) ↔ OrderOf (count_from 1 n) posting
+pub posted : (n : ℕ) (posting : List ℕ) → (posting_tests n posting ≡ Ok tt) ↔ OrderOf (count_from 1 n) posting
 posted n posting = (
   λ e. orders_perm n (count_from 1 n) posting (length_count 1 n) (posting_order n posting (length_count 1 n) e),
   λ o. let t = perm_orders n (count_from 1 n) posting (length_count 1 n) o in

@@ -13,29 +13,21 @@ ghost use Rattle.outcomes.specs.Planning.{gives, planning_in};
 ghost use Rattle.outcomes.specs.Plannable.{Plannable};
 
 use listing::Planned;
-use refusals::Tested;
+use refusals::Refusal;
 use schedule::{Desk, Profile};
 
-// The answer to the call for the list: the count of plans.
+// What an order attains: its own end and worst lateness.
 #[derive(Clone, Copy)]
-pub enum ListAnswer {
-    Plans(usize),
-    Refused(u32, usize),
+pub struct Attained {
+    pub end: u32,
+    pub late: i32,
 }
 
-// The answer to a call for an order: its own end and worst lateness.
+// The verdict on a posting: its own end and worst lateness, and the first listed plan that beats it.
 #[derive(Clone, Copy)]
-pub enum OrderAnswer {
-    Pair(u32, i32),
-    Refused(u32, usize),
-}
-
-// The answer to the call for a verdict: the posting's own end and worst lateness, and the first listed plan that beats it.
-#[derive(Clone, Copy)]
-pub enum VerdictAnswer {
+pub enum Verdict {
     Unbeaten(u32, i32),
     Beaten(u32, i32, usize),
-    Refused(u32, usize),
 }
 
 // The list: for each plan two words, end and worst lateness in two's complement, by rising end; refused where the buffer is too short.
@@ -47,18 +39,21 @@ pub fn list_in<'a>(
     n: usize,
     free: u32,
     res: &mut [u32],
-) -> ListAnswer
+) -> Result<usize, Refusal>
     requires { Plannable profile (columns release.now minutes.now due.now) free n }
     ensures { gives result res.new ≡
         list_outcome (planning_in profile (columns release.now minutes.now due.now) free n)
         res.old }
 {
     if res.len() < 2 * n {
-        return ListAnswer::Refused(Tested::NARROW, 0);
+        return Err(Refusal {
+            number: Refusal::NARROW,
+            place: 0,
+        });
     }
     let front = plans::list(profile, release, minutes, due, n, free);
     results::write_plans(&front.ends, &front.lates, front.count, res);
-    ListAnswer::Plans(front.count)
+    Ok(front.count)
 }
 
 // The order for a raised bound of the rows in columns, with its own pair; refused where the buffer is too short or no order keeps the
@@ -72,21 +67,30 @@ pub fn order_in<'a>(
     free: u32,
     bound: u32,
     res: &mut [u32],
-) -> OrderAnswer
+) -> Result<Attained, Refusal>
     requires { Plannable profile (columns release.now minutes.now due.now) free n }
     ensures { gives result res.new ≡
         order_outcome (planning_in profile (columns release.now minutes.now due.now) free n)
         (lowered bound) res.old }
 {
     if res.len() < n {
-        return OrderAnswer::Refused(Tested::NARROW, 0);
+        return Err(Refusal {
+            number: Refusal::NARROW,
+            place: 0,
+        });
     }
     let Planned::Kept(end, late) = plans::order_for(
         profile, release, minutes, due, n, free, bound, res,
     ) else {
-        return OrderAnswer::Refused(Tested::UNKEPT, 0);
+        return Err(Refusal {
+            number: Refusal::UNKEPT,
+            place: 0,
+        });
     };
-    OrderAnswer::Pair(end, schedule::lower(late))
+    Ok(Attained {
+        end,
+        late: schedule::lower(late),
+    })
 }
 
 // The order of a listed plan by its number from 1: the order for the bound equal to its lateness.
@@ -99,7 +103,7 @@ pub fn plan_in<'a>(
     free: u32,
     plan: u32,
     res: &mut [u32],
-) -> OrderAnswer
+) -> Result<Attained, Refusal>
     requires { Plannable profile (columns release.now minutes.now due.now) free n }
     ensures { gives result res.new ≡
         plan_outcome (planning_in profile (columns release.now minutes.now due.now) free n)
@@ -109,10 +113,16 @@ pub fn plan_in<'a>(
     let k = plan as usize;
     let count = front.count;
     if k == 0 {
-        return OrderAnswer::Refused(Tested::UNLISTED, count);
+        return Err(Refusal {
+            number: Refusal::UNLISTED,
+            place: count,
+        });
     }
     if count < k {
-        return OrderAnswer::Refused(Tested::UNLISTED, count);
+        return Err(Refusal {
+            number: Refusal::UNLISTED,
+            place: count,
+        });
     }
     let late = front.lates[k - 1];
     order_in(profile, release, minutes, due, n, free, late, res)
@@ -127,19 +137,16 @@ pub fn verdict_in<'a>(
     n: usize,
     free: u32,
     posting: &[u32],
-) -> VerdictAnswer
+) -> Result<Verdict, Refusal>
     requires { Plannable profile (columns release.now minutes.now due.now) free n }
     ensures { result ≡
         verdict_outcome (planning_in profile (columns release.now minutes.now due.now) free n)
         posting.now }
 {
-    let test = postings::posting_tests(n, posting);
-    if let Tested::Refused(number, place) = test {
-        return VerdictAnswer::Refused(number, place);
-    }
+    postings::posting_tests(n, posting)?;
     let front = plans::list(profile, release, minutes, due, n, free);
     let desk = plans::follow(release, minutes, due, free, posting);
-    judge(&front.ends, &front.lates, front.count, desk)
+    Ok(judge(&front.ends, &front.lates, front.count, desk))
 }
 
 // A desk after a posting, against the plans of two columns.
@@ -148,7 +155,7 @@ fn judge<'a>(
     lates: &'a [u32; Desk::ROWS],
     count: usize,
     desk: Desk,
-) -> VerdictAnswer
+) -> Verdict
     requires { (count ≤ most_rows) × (length ends.now ≡ most_rows) × (length lates.now ≡ most_rows) }
     ensures { result ≡ judged_of (pair_at desk.minute desk.worst)
         (first_beating 1 (pairs_of (take count ends.now) (take count lates.now))
@@ -158,7 +165,7 @@ fn judge<'a>(
     let late = schedule::lower(desk.worst);
     let plan = results::first_beating(ends, lates, count, end, desk.worst);
     if plan == 0 {
-        return VerdictAnswer::Unbeaten(end, late);
+        return Verdict::Unbeaten(end, late);
     }
-    VerdictAnswer::Beaten(end, late, plan)
+    Verdict::Beaten(end, late, plan)
 }

@@ -3,9 +3,9 @@
 use native.Mathlib.Omega.{arith}
 use mathlib.Core.Path.{ap, ◌∙◌}
 use lib.IntN.{ℤ}
+use Rattle.std.specs.Prelude.{Ok}
 use Rattle.schedule.specs.Offset.{lowered}
 use Rattle.schedule.proofs.SignedWords.{lowered_word}
-use Rattle.outcomes.specs.declared.OrderAnswer.TheVariants as order-answer
 use Rattle.outcomes.specs.Planning.{gives}
 use Rattle.outcomes.proofs.Answered.{order_short, order_unkept, order_kept}
 use Rattle.outcomes.proofs.order_in.Goals as goal
@@ -27,7 +27,7 @@ returns-in_default c =
 pub returns : goal.returns
 returns c =
     let w = c.lower in
-    ap (λ (z : ℤ). gives (order-answer.Pair c.in-Kept.end z) c.order_for.new.out)
+    ap (λ (z : ℤ). gives (Ok (record { end = c.in-Kept.end; late = z })) c.order_for.new.out)
     (lowered_word c.in-Kept.late w.result (omega arith) w.ensures) ∙
     order_kept c.requires c.args.bound c.args.res.now
     c.if-res-n.false c.order_for.result _ c.order_for.ensures c.in-Kept.end c.in-Kept.late

@@ -2,16 +2,18 @@
 -- Assumes nothing.
 use native.Mathlib.Omega.{arith}
 use mathlib.Core.Path.{sym, ◌∙◌}
+use Rattle.refusals.proofs.Tests.{handed_on}
 use Rattle.outcomes.proofs.Columns.{posting_length, posting_rows}
 use Rattle.outcomes.proofs.Answered.{front_sized, verdict_stray, verdict_done}
 use Rattle.outcomes.proofs.verdict_in.Goals as goal
 
-pub posting_tests-test-requires : goal.posting_tests-test-requires
-posting_tests-test-requires c = c.requires.few
+pub posting_tests-requires : goal.posting_tests-requires
+posting_tests-requires c = c.requires.few
 
-pub returns-in-Refused : goal.returns-in-Refused
-returns-in-Refused c =
-    verdict_stray c.requires c.args.posting.now c.in-Refused.number c.in-Refused.place (sym c.posting_tests-test.ensures ∙ c.in-Refused.is)
+pub returns-in_err-posting_tests : goal.returns-in_err-posting_tests
+returns-in_err-posting_tests c =
+    handed_on c.from_residual.result c.from_residual.ensures.1 ∙
+    verdict_stray c.requires c.args.posting.now c.in_err-posting_tests.field-0.0 (sym c.posting_tests.ensures ∙ c.in_err-posting_tests.was)
 
 pub list-front-requires : goal.list-front-requires
 list-front-requires c =
@@ -20,7 +22,7 @@ list-front-requires c =
 pub follow-desk-requires : goal.follow-desk-requires
 follow-desk-requires c =
     let p = c.requires in
-    let passed = sym c.posting_tests-test.ensures ∙ c.in_default.is in
+    let passed = sym c.posting_tests.ensures ∙ c.in_ok-posting_tests.was in
     let l = posting_length p c.args.posting.now passed in record { limits = p.limits; ends_in_time = (omega (arith, l, p.early), omega (arith, l, p.few), posting_rows p c.args.posting.now passed) }
 
 pub judge-requires : goal.judge-requires
@@ -33,7 +35,6 @@ pub returns : goal.returns
 returns c =
     let l = c.list-front in
     let f = c.follow-desk in
-    let passed = sym c.posting_tests-test.ensures ∙
-    c.in_default.is in
+    let passed = sym c.posting_tests.ensures ∙ c.in_ok-posting_tests.was in
     verdict_done c.requires l.result l.ensures c.args.posting.now passed f.result f.ensures c.judge.result
     c.judge.ensures
