@@ -1,6 +1,6 @@
 -- The whole book, tests 1 to 7: what it gives.
 -- Rests on: Rows.
-use Rattle.std.specs.Prelude.{ℕ, ◌-◌, List, [], drop}
+use Rattle.std.specs.Prelude.{ℕ, List, [], drop}
 use Rattle.schedule.specs.Limits.{latest_minute, least_pace, most_pace}
 use Rattle.refusals.specs.declared.Tested.{Tested}
 use Rattle.refusals.specs.Tests.{◌then◌}

@@ -1,7 +1,6 @@
 -- `read_rows` meets its contract: each turn of the loop is one step of `read_rows`, with the rest of the book as a part of its own.
 -- Assumes nothing.
-use Prim.Native.Nat.{◌≤◌, ◌<◌, ◌+◌, ◌-◌}
-use mathlib.Core.Path.{◌≡◌, ◌∙◌}
+use Prim.Native.Nat.{◌≤◌, ◌-◌}
 use lib.ListN.{length, drop}
 use Rattle.book.proofs.Reached.{Reached}
 use Rattle.book.proofs.read_rows.Given as goal

@@ -4,7 +4,7 @@ use native.Mathlib.Omega.{arith}
 use mathlib.Core.Path.{◌≡◌, refl, sym, ap, ◌∙◌}
 use Rattle.words.specs.Words.{value, word}
 use Rattle.book.specs.Tables.{reading_of}
-use Rattle.book.proofs.Tests.{HeadFit, head_fits_lem}
+use Rattle.book.proofs.Tests.{head_fits_lem}
 use Rattle.book.proofs.Whole.{book_rows}
 use Rattle.book.proofs.Readings.{head_refused, head_passed}
 use Rattle.book.proofs.read_words.Goals as goal
