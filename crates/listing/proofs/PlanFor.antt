@@ -12,7 +12,7 @@ use Rattle.theory.specs.Jobs.{Job}
 use Rattle.schedule.specs.Limits.{most_rows}
 use Rattle.schedule.specs.declared.Desk.{Desk}
 use Rattle.schedule.specs.Desk.{end_of, pair_of}
-use Rattle.schedule.specs.Columns.{at, Limits}
+use Rattle.schedule.specs.Columns.{Limits}
 use Rattle.schedule.specs.Offset.{desk_at, raised}
 use Rattle.trail.specs.declared.Reached.{Reached}
 use Rattle.listing.specs.declared.Planned.TheVariants.{Kept, Unkept}
@@ -54,7 +54,7 @@ module _ (n : ℕ) (job : ℕ → Job) (by : ℕ → ℕ) (limits : Limits job) 
     unfolding planned_of
     pair_unkept h = record { answered = ap (planned_of job free) (sym (f.came.over h)); bounded = tt }
 
-    pub answers : Paired job n free bound (answer_of end bound)
+    answers : Paired job n free bound (answer_of end bound)
     unfolding answer_of
     answers = go (leb end.worst bound) refl
       where
@@ -63,6 +63,10 @@ module _ (n : ℕ) (job : ℕ → Job) (by : ℕ → ℕ) (limits : Limits job) 
             (pair_kept (leb-true end.worst bound e))
         go false e = subst (λ (c : Bool). Paired job n free bound (cond c (Kept end.minute end.worst) Unkept)) (sym e)
             (pair_unkept (leb-false end.worst bound e))
+
+    -- The answer that the code has.
+    pub answered : (said : Planned) → answer_of end bound ≡ said → Paired job n free bound said
+    answered said e = subst (λ (a : Planned). Paired job n free bound a) e answers
 
   -- The bound goes one below the worst lateness of the plan found.
   pub lowers : (bound : ℕ) (trail : List (List ℕ)) (r : Reached) → Ended n job by free bound trail r → (e l : ℕ) →

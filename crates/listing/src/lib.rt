@@ -42,14 +42,11 @@ fn pair_place(ends: &[u32; Desk::ROWS], count: usize, end: u32) -> usize
     requires { count ≤ most_rows }
     ensures { result ≡ pair_place ends.now count end }
 {
-    if count == 0 {
-        return 0;
+    if count > 0 && ends[count - 1] == end {
+        count - 1
+    } else {
+        count
     }
-    let last = count - 1;
-    if ends[last] == end {
-        return last;
-    }
-    count
 }
 
 // The list with one pair more, which takes the place of the last pair where both have one end; and the pairs there are then.
@@ -75,9 +72,10 @@ fn answer(desk: Desk, bound: u32) -> Planned
     ensures { result ≡ answer_of desk bound }
 {
     if desk.worst <= bound {
-        return Planned::Kept(desk.minute, desk.worst);
+        Planned::Kept(desk.minute, desk.worst)
+    } else {
+        Planned::Unkept
     }
-    Planned::Unkept
 }
 
 // The list of rows that stand by rank, with a trail of as many places as rows at least.
@@ -103,20 +101,14 @@ fn list_along(
     let mut count: usize = 0;
     let mut bound: u32 = LARGEST_BOUND;
     let mut reached = trail::set_out(release, minutes, due, by, n, free, bound, &mut order, trail);
-    loop {
-        let Planned::Kept(end, late) = answer(reached.at.desk, bound) else {
-            return Front {
-                count: count,
-                ends: ends,
-                lates: lates,
-            };
-        };
+    while let Planned::Kept(end, late) = answer(reached.at.desk, bound) {
         count = put_pair(&mut ends, &mut lates, count, end, late);
         bound = late - 1;
         reached = trail::resume(
             release, minutes, due, by, n, reached, bound, &mut order, trail,
         );
     }
+    Front { count, ends, lates }
 }
 
 // The list of rows that stand by rank. A small day gets a small trail, which is sooner laid out.

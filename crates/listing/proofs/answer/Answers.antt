@@ -1,20 +1,13 @@
 -- `answer` meets its contract: one test decides it.
 -- Assumes nothing.
-use mathlib.Core.Bool.{Bool, cond}
-use mathlib.Core.Path.{sym, ap}
 use borrow.Author.Tests.{le-leb, lt-leb}
-use Rattle.listing.specs.declared.Planned.TheVariants.{Kept, Unkept}
 use Rattle.listing.specs.PlanFor.{answer_of}
 use Rattle.listing.proofs.answer.Goals as goal
 
 pub returns-then-desk-bound : goal.returns-then-desk-bound
-returns-then-desk-bound c =
-    let a = c.args in
-    unfold answer_of in ap (λ (b : Bool). cond b (Kept a.desk.minute a.desk.worst) Unkept)
-    (sym (le-leb a.desk.worst a.bound c.if-desk-bound.true))
+unfolding answer_of
+returns-then-desk-bound c = simp (le-leb c.args.desk.worst c.args.bound c.if-desk-bound.true)
 
-pub returns : goal.returns
-returns c =
-    let a = c.args in
-    unfold answer_of in ap (λ (b : Bool). cond b (Kept a.desk.minute a.desk.worst) Unkept)
-    (sym (lt-leb a.desk.worst a.bound c.if-desk-bound.false))
+pub returns-else-desk-bound : goal.returns-else-desk-bound
+unfolding answer_of
+returns-else-desk-bound c = simp (lt-leb c.args.desk.worst c.args.bound c.if-desk-bound.false)

@@ -1,17 +1,14 @@
 -- `list_along` meets its contract: what is listed so far, and what smaller bounds still give, is the list of plans. The bound falls.
 -- Assumes nothing.
 use borrow.Author.Rules.{rules}
-use Prim.Native.Nat.{ℕ, ◌≤◌}
-use mathlib.Core.Path.{◌≡◌, refl, sym, ◌∙◌, subst}
+use Prim.Native.Nat.{ℕ}
+use mathlib.Core.Path.{refl, sym, ◌∙◌}
 use native.Mathlib.Omega.{arith}
 use lib.ListN.{length-replicate}
 use Rattle.schedule.specs.Limits.{most_rows}
 use Rattle.schedule.specs.Columns.{columns}
-use Rattle.listing.specs.declared.Planned.{Planned}
-use Rattle.listing.specs.PlanFor.{Paired}
 use Rattle.listing.proofs.Lists.{listing_first, listing_last, listing_room, listing_next}
-use Rattle.listing.proofs.PlanFor.{answers}
-use Rattle.listing.proofs.PlanFor.{lowers}
+use Rattle.listing.proofs.PlanFor.{answered, lowers}
 use Rattle.listing.proofs.list_along.Goals as goal
 
 pub set_out-reached-requires : goal.set_out-reached-requires
@@ -30,19 +27,14 @@ loop-end-init c =
       refl,
     )
 
-pub shape_of-trail-in_default : goal.shape_of-trail-in_default
-shape_of-trail-in_default c = c.loop-end.invariant.4 ∙
-    c.set_out-reached.auto.trail
-
-pub returns-in_default : goal.returns-in_default
-returns-in_default c =
+pub returns : goal.returns
+returns c =
     let a = c.args in
     let l = c.loop-end in
     let job = columns a.release.now a.minutes.now a.due.now in
     let says = sym c.answer.ensures ∙ c.in_default.is in
     listing_last job a.n a.free c.requires.limits c.requires.le_n.0 c.requires.tables.few c.requires.le_n.1 c.requires.le_n.3 _ _ l.invariant.3
-    (subst (λ (r : Planned). Paired job a.n a.free l.bound r) says
-    (answers _ _ _ c.requires.limits _ c.requires.le_n.0 c.requires.tables.few _ _ _ l.invariant.2))
+    (answered _ _ _ c.requires.limits _ c.requires.le_n.0 c.requires.tables.few _ _ _ l.invariant.2 _ says)
 
 pub put_pair-count-requires : goal.put_pair-count-requires
 put_pair-count-requires c =
@@ -50,8 +42,7 @@ put_pair-count-requires c =
     let l = c.loop-end in
     let job = columns a.release.now a.minutes.now a.due.now in
     let says = sym c.answer.ensures ∙ c.in-Kept.is in
-    let w = subst (λ (r : Planned). Paired job a.n a.free l.bound r) says
-    (answers _ _ _ c.requires.limits _ c.requires.le_n.0 c.requires.tables.few _ _ _ l.invariant.2) in
+    let w = answered _ _ _ c.requires.limits _ c.requires.le_n.0 c.requires.tables.few _ _ _ l.invariant.2 _ says in
     listing_room job a.n a.free c.requires.limits c.requires.le_n.0 c.requires.tables.few c.requires.le_n.1 c.requires.le_n.3
     (record { count = l.count; ends = l.ends; lates = l.lates }) l.bound l.invariant.3 c.in-Kept.end c.in-Kept.late w
 
@@ -61,8 +52,7 @@ overflow_sub-bound c =
     let l = c.loop-end in
     let job = columns a.release.now a.minutes.now a.due.now in
     let says = sym c.answer.ensures ∙ c.in-Kept.is in
-    let w = subst (λ (r : Planned). Paired job a.n a.free l.bound r) says
-    (answers _ _ _ c.requires.limits _ c.requires.le_n.0 c.requires.tables.few _ _ _ l.invariant.2) in
+    let w = answered _ _ _ c.requires.limits _ c.requires.le_n.0 c.requires.tables.few _ _ _ l.invariant.2 _ says in
     omega (arith, w.bounded)
 
 pub resume-reached-requires : goal.resume-reached-requires
@@ -71,8 +61,7 @@ resume-reached-requires c =
     let l = c.loop-end in
     let job = columns a.release.now a.minutes.now a.due.now in
     let says = sym c.answer.ensures ∙ c.in-Kept.is in
-    let w = subst (λ (r : Planned). Paired job a.n a.free l.bound r) says
-    (answers _ _ _ c.requires.limits _ c.requires.le_n.0 c.requires.tables.few _ _ _ l.invariant.2) in record { limits = c.requires.limits; tables = c.requires.tables; order_len = (l.invariant.0, l.invariant.1, (a.free, l.bound, lowers _ _ _ c.requires.limits _ _ _ _ l.invariant.2 _ _ says w.bounded.0)) }
+    let w = answered _ _ _ c.requires.limits _ c.requires.le_n.0 c.requires.tables.few _ _ _ l.invariant.2 _ says in record { limits = c.requires.limits; tables = c.requires.tables; order_len = (l.invariant.0, l.invariant.1, (a.free, l.bound, lowers _ _ _ c.requires.limits _ _ _ _ l.invariant.2 _ _ says w.bounded.0)) }
 
 pub loop-end-smaller : goal.loop-end-smaller
 loop-end-smaller c =
@@ -80,8 +69,7 @@ loop-end-smaller c =
     let l = c.loop-end in
     let job = columns a.release.now a.minutes.now a.due.now in
     let says = sym c.answer.ensures ∙ c.in-Kept.is in
-    let w = subst (λ (r : Planned). Paired job a.n a.free l.bound r) says
-    (answers _ _ _ c.requires.limits _ c.requires.le_n.0 c.requires.tables.few _ _ _ l.invariant.2) in
+    let w = answered _ _ _ c.requires.limits _ c.requires.le_n.0 c.requires.tables.few _ _ _ l.invariant.2 _ says in
     omega (arith, w.bounded)
 
 pub loop-end-preserved : goal.loop-end-preserved
@@ -90,8 +78,7 @@ loop-end-preserved c =
     let l = c.loop-end in
     let job = columns a.release.now a.minutes.now a.due.now in
     let says = sym c.answer.ensures ∙ c.in-Kept.is in
-    let w = subst (λ (r : Planned). Paired job a.n a.free l.bound r) says
-    (answers _ _ _ c.requires.limits _ c.requires.le_n.0 c.requires.tables.few _ _ _ l.invariant.2) in
+    let w = answered _ _ _ c.requires.limits _ c.requires.le_n.0 c.requires.tables.few _ _ _ l.invariant.2 _ says in
     let r = c.resume-reached in (
       r.ensures.0,
       r.ensures.1,

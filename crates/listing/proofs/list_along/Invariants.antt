@@ -1,7 +1,7 @@
 -- `list_along` meets its contract: what is listed so far, and what smaller bounds still give, is the list of plans. The bound falls.
 -- Assumes nothing.
 use Prim.Native.Nat.{◌≤◌}
-use mathlib.Core.Path.{◌≡◌, ◌∙◌}
+use mathlib.Core.Path.{◌≡◌}
 use lib.ListN as L
 use Rattle.schedule.specs.Limits.{most_rows}
 use Rattle.schedule.specs.Columns.{at, columns}
