@@ -1,15 +1,15 @@
 -- Rows left that pass the tests of a change of pace agree on the desk after it; and rows that agree pass the tests of the pace that they
 -- are read at.
 -- Assumes nothing.
-use Prim.Native.Nat.{ℕ, zero, suc, ◌+◌, ◌≤◌, ◌<◌}
+use Prim.Native.Nat.{ℕ, zero, suc, ◌+◌, ◌≤◌}
 use native.Mathlib.Omega.{arith}
-use mathlib.Core.Bool.{Bool, true, cond}
+use mathlib.Core.Bool.{Bool, cond}
 use mathlib.Core.Path.{◌≡◌, sym, ap, ◌∙◌, subst}
-use mathlib.Core.List.{List, map, Memᴰ}
+use mathlib.Core.List.{Memᴰ}
 use lib.ListN.{length}
 use Rattle.theory.specs.Jobs.{Job}
 use Rattle.schedule.specs.declared.Profile.TheVariants.{Ordering}
-use Rattle.schedule.specs.Rows.{with_opening, count_from}
+use Rattle.schedule.specs.Rows.{with_opening}
 use Rattle.schedule.specs.Cover.{Agreeing}
 use Rattle.schedule.proofs.Opening.{opening_laws}
 use Rattle.schedule.proofs.Stands.{mem_stands}

@@ -2,7 +2,7 @@
 -- Assumes nothing.
 use Prim.Native.Nat.{ℕ, zero, suc, ◌+◌, ◌*◌, ◌/◌, ◌≤◌, ◌<◌}
 use native.Mathlib.Omega.{arith}
-use mathlib.Core.Path.{◌≡◌, refl, sym, ap, ◌∙◌}
+use mathlib.Core.Path.{◌≡◌, sym, ap, ◌∙◌}
 use mathlib.Core.List.{List, ◌∷◌}
 use lib.ListN.{length, get_or}
 use Rattle.theory.specs.Jobs.{Job}
@@ -24,8 +24,8 @@ use Rattle.rows.specs.InColumns.{Within}
 use Rattle.readers.specs.Rules.{clash_by, number_by, rule_tests}
 use Rattle.readers.specs.Seconds.{JobsTested}
 use Rattle.readers.proofs.Rules.{clash_mutual}
-use Rattle.running.specs.Running.{Running, pages_in}
-use Rattle.running.specs.Words.{count_in, releases, dues, pages, pages_held, left_to, running, KeepsPages}
+use Rattle.running.specs.Running.{Running}
+use Rattle.running.specs.Words.{count_in, releases, dues, pages, left_to, running, KeepsPages}
 use Rattle.running.proofs.Fits.{row_held, pages_held_lem}
 use Rattle.rows_left.specs.Gathered.{left_at, word_left}
 use Rattle.rows_left.proofs.Plain.{plain_size, plain_job}

@@ -11,7 +11,7 @@ use lib.ListN.{length, take, drop, length-map, length-drop}
 use lib.Seq.{ext_get_or, length-take-le, get_or-take, get_or-drop}
 use Rattle.theory.specs.Jobs.{Job}
 use Rattle.schedule.specs.Limits.{most_rows, row_places, longest_length, least_pace, most_pace}
-use Rattle.schedule.specs.Rows.{with_opening, count_from, stands}
+use Rattle.schedule.specs.Rows.{with_opening, count_from}
 use Rattle.schedule.specs.Columns.{at}
 use Rattle.schedule.specs.Filled.{Filled, from}
 use Rattle.schedule.proofs.Numbers.{length_count, count_range}
@@ -19,9 +19,9 @@ use Rattle.schedule.proofs.SameJobs.{map_same}
 use Rattle.schedule.proofs.Stands.{stands_mem}
 use Rattle.row_reader.specs.NearestMinute.{length_of}
 use Rattle.row_reader.proofs.NearestMinute.{length_least, length_most}
-use Rattle.running.specs.Running.{Running, job_in, pages_in}
+use Rattle.running.specs.Running.{Running, job_in}
 use Rattle.running.specs.Words.{count_in, opening_in, releases, times, dues, marks, pages, job_at, rows_in, pages_held, left_to, worst_held}
-use Rattle.running.specs.Words.{running, IsDesk, KeepsPages, put}
+use Rattle.running.specs.Words.{running, IsDesk, KeepsPages}
 use Rattle.running.proofs.Fits.{counted_at, row_held, rows_length, pages_held_lem}
 use Rattle.running.proofs.Left.{left_stands, left_same}
 use Rattle.running.proofs.Puts.{put_length, put_inside, put_before, put_after}

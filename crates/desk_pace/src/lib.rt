@@ -37,11 +37,8 @@ fn lengths_left(
         × (column.old ≡ replicate row_places 0) }
     ensures { Filled row_places (from 1) (length_left desk.now pace rows.now) n column.new }
 {
-    let mut k: usize = 0;
-    while k < n {
-        k += 1;
-        let row = rows_left::place_of(rows[k]);
-        column[k] = row_reader::length_of(desk[Layout::PAGES + row], pace);
+    for k in 1..=n {
+        column[k] = row_reader::length_of(desk[Layout::PAGES + rows[k] as usize], pace);
     }
 }
 
@@ -76,13 +73,6 @@ fn left_tests(desk: &[u32], pace: u32) -> Tested
     }
 }
 
-// The time of a row after the change: the new one where it is left.
-fn time_of(left: bool, new: u32, old: u32) -> u32
-    ensures { result ≡ cond left new old }
-{
-    if left { new } else { old }
-}
-
 // The times of all rows after the change, from place 1 on.
 fn new_times(desk: &[u32], pace: u32, column: &mut [u32; Desk::PLACES])
     requires { (least_pace ≤ pace) × (pace ≤ most_pace) × (desk_words ≤ length desk.now) × (count_in desk.now ≤ most_rows)
@@ -93,11 +83,13 @@ fn new_times(desk: &[u32], pace: u32, column: &mut [u32; Desk::PLACES])
 {
     let n = desk[Layout::COUNT] as usize;
     let opening = desk[Layout::OPENING];
-    let mut i: usize = 0;
-    while i < n {
-        i += 1;
+    for i in 1..=n {
         let new = opening + row_reader::length_of(desk[Layout::PAGES + i], pace);
-        column[i] = time_of(desk[Layout::MARKS + i] == 0, new, desk[Layout::TIMES + i]);
+        column[i] = if desk[Layout::MARKS + i] == 0 {
+            new
+        } else {
+            desk[Layout::TIMES + i]
+        };
     }
 }
 
@@ -119,11 +111,10 @@ pub fn change(desk: &mut [u32], pace: u32) -> PaceAnswer
     if !running::keeps_pages(desk) {
         return PaceAnswer::Refused(Tested::RANGE, 0);
     }
-    if !((Desk::LEAST_PACE <= pace) & (pace <= Desk::MOST_PACE)) {
+    if !(Desk::LEAST_PACE..=Desk::MOST_PACE).contains(&pace) {
         return PaceAnswer::Refused(Tested::RANGE, 0);
     }
-    let test = left_tests(desk, pace);
-    if let Tested::Refused(number, place) = test {
+    if let Tested::Refused(number, place) = left_tests(desk, pace) {
         return PaceAnswer::Refused(number, place);
     }
     store(desk, pace);

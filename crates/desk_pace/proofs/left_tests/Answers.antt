@@ -2,7 +2,7 @@
 -- row that a refusal tells. Assumes nothing.
 use native.Mathlib.Omega.{arith}
 use Prim.Native.Nat.{ℕ}
-use mathlib.Core.Path.{◌≡◌, refl, sym, ap, ◌∙◌, subst}
+use mathlib.Core.Path.{refl, sym, ap, ◌∙◌, subst}
 use Rattle.refusals.specs.declared.Tested.TheVariants.{Refused}
 use Rattle.pairs.specs.Pairs.{number_word}
 use Rattle.running.specs.Words.{running}
