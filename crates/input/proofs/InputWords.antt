@@ -1,12 +1,14 @@
 -- Laws of the words of an input: none in fewer than four bytes, and one more word at each turn of the loop that takes them.
 -- Assumes nothing.
-use Prim.Native.Nat.{ℕ, zero, suc, ◌+◌, ◌-◌, ◌*◌, ◌≤◌, ◌<◌}
+use Prim.Native.Nat.{ℕ, zero, suc, ◌+◌, ◌-◌, ◌*◌, ◌/◌, ◌≤◌, ◌<◌, min}
 use mathlib.Core.Path.{◌≡◌, refl, sym, ap, ◌∙◌}
 use mathlib.Core.List.{List, [], ◌∷◌, ◌++◌, append_assoc, append-nil}
 use native.Mathlib.Omega.{arith}
+use native.Mathlib.Decide.{dec_lt}
 use native.Mathlib.Numerals.{add-one, unary_clauses}
-use lib.ListN.{length, take, drop, set}
-use lib.Seq.{drop-cons, take-suc-set, length-take-le}
+use lib.ListN.{length, take, drop, set, length-append, length-drop}
+use lib.Seq.{drop-cons, take-suc-set, take_all}
+use Rattle.std.proofs.lemmas.List.{take_at}
 use Rattle.input.specs.Input.{word_at, words_in, Counted}
 
 pub short : (n : ℕ) (bytes : List ℕ) → length bytes < 4 → words_in n bytes ≡ []
@@ -65,7 +67,21 @@ module _ (input words : List ℕ) (n k : ℕ) where
       rw (e, m, long (n - (k + 1)) (4 * k) input a, add-one k, take-suc-set words k (word_at input (4 * k)) c, append_assoc)
       refl
 
-  pub done : k ≤ length words → words_in (n - k) (drop (4 * k) input) ≡ [] →
-      take k words ++ words_in (n - k) (drop (4 * k) input) ≡ words_in n input → Counted k words (words_in n input)
-  done h none all =
-      record { few = h; size = sym (length-take-le k words h); holds = sym (append-nil (take k words)) ∙ (rw none at all) }
+-- No word is left once all that there is room for, or all that the bytes make, are taken.
+none_left : (input : List ℕ) (n k : ℕ) → k ≡ min n (length input / 4) → words_in (n - k) (drop (4 * k) input) ≡ []
+none_left input n k e = step (dec_lt k n)
+  where
+    step : Dec (k < n) → words_in (n - k) (drop (4 * k) input) ≡ []
+    step (yes h) = short (n - k) (drop (4 * k) input) (simp length-drop (omega arith))
+    step (no h) = no_more (n - k) (drop (4 * k) input) (omega arith)
+
+-- The words that are taken stand at the front of the room.
+pub all_taken : (input words rest : List ℕ) (n k : ℕ) → length words ≡ k → k ≡ min n (length input / 4) →
+    take k words ++ words_in (n - k) (drop (4 * k) input) ≡ words_in n input → Counted k (words ++ rest) (words_in n input)
+all_taken input words rest n k h e all =
+    let front : take k (words ++ rest) ≡ words = take_at words rest k h in record {
+      few = omega (arith, length-append words rest);
+      size = sym h ∙ ap length (sym front);
+      holds = front ∙ (sym (append-nil words) ∙ (ap (λ (l : List ℕ). words ++ l) (sym (none_left input n k e)) ∙
+          (ap (λ (l : List ℕ). l ++ words_in (n - k) (drop (4 * k) input)) (sym (take_all k words (omega arith))) ∙ all)));
+    }

@@ -1,34 +1,12 @@
--- Laws of bytes added to a sheet: one after another as a loop puts them, and one part after another.
+-- Laws of bytes added to a sheet, one part after another.
 -- Assumes nothing.
-use Prim.Native.Nat.{ℕ, suc, ◌+◌, ◌≤◌, ◌<◌}
+use Prim.Native.Nat.{ℕ, ◌+◌, ◌≤◌}
 use mathlib.Core.Path.{◌≡◌, refl, ap, sym, ◌∙◌}
 use mathlib.Core.List.{List, [], ◌++◌, append_assoc, append-nil}
 use native.Mathlib.Omega.{arith}
-use native.Mathlib.Nat.{add-zero}
-use lib.ListN.{length, take, get_or, set, length-append}
-use lib.Seq.{take-suc, take-suc-set, take_all, length-take-le}
+use lib.ListN.{length, take, length-append}
+use lib.Seq.{length-take-le}
 use Rattle.lines.specs.Added.{Added}
-
-module _ (before bytes sheet : List ℕ) (at i : ℕ) where
-  pub one_more : at + i < length sheet → i < length bytes → take (at + i) sheet ≡ take at before ++ take i bytes →
-      take (at + (i + 1)) (set sheet (at + i) (get_or bytes i 0)) ≡ take at before ++ take (i + 1) bytes
-  one_more a b e =
-      let n : at + (i + 1) ≡ suc (at + i) = omega arith in
-      let m : i + 1 ≡ suc i = omega arith in
-      rw (n, m, take-suc-set sheet (at + i) (get_or bytes i 0) a, take-suc bytes i 0 b, e, append_assoc)
-      refl
-
-  pub all_put : i ≡ length bytes → length sheet ≡ length before → at + i ≤ length sheet →
-      take (at + i) sheet ≡ take at before ++ take i bytes → Added (at + i) at (length bytes) before bytes sheet
-  all_put e l f h = record {
-    few = omega arith;
-    room = l;
-    size = sym (length-take-le (at + i) sheet f);
-    holds = h ∙ ap (λ (b : List ℕ). take at before ++ b) (take_all i bytes (omega arith));
-  }
-
-pub none_put : (before bytes : List ℕ) (at : ℕ) → take (at + 0) before ≡ take at before ++ take 0 bytes
-none_put before bytes at = ap (λ (n : ℕ). take n before) (add-zero at) ∙ sym (append-nil (take at before))
 
 -- Nothing is added.
 pub none_added : (at : ℕ) (before : List ℕ) → at ≤ length before → Added at at 0 before [] before

@@ -11,9 +11,8 @@ use borrow.Author.Tests.{lt-ltb, le-ltb}
 use lib.ListN.{length, take, get_or, length-append}
 use lib.Seq.{take-suc}
 use Rattle.io.specs.Digits.{hex_digit_ascii, last_digits, IsDigitCount}
-use Rattle.results.specs.Results.{signed}
 use Rattle.lines.specs.Decimal.{digits_in, decimal}
-use Rattle.lines.specs.LineBytes.{late_word, field, late_field, number_fields}
+use Rattle.lines.specs.LineBytes.{field, number_fields}
 
 glyph_is : (d : ℕ) → d < 10 → hex_digit_ascii d ≡ 48 + d
 glyph_is d h = rw (lt-ltb d 10 h) refl
@@ -72,17 +71,6 @@ short d n h = short_in (suc n) d n h
 -- The field of an order number, a word.
 pub short_field : (n : ℕ) → n < 4294967296 → length (field (32 ∷ []) n) ≤ 11
 short_field n h = omega (arith, short 9 n (omega arith))
-
--- The field of a lateness, by the halves of the words in two's complement.
-pub late_positive : (w : ℕ) → w < 2147483648 → field late_word w ≡ late_field (signed w)
-unfolding signed late_field
-late_positive w h = rw (lt-ltb w 2147483648 h) refl
-
-pub late_negative : (w : ℕ) → 2147483648 ≤ w → w < 4294967296 → field (late_word ++ (45 ∷ [])) (4294967296 - w) ≡ late_field (signed w)
-unfolding signed late_field
-late_negative w h b =
-    let e : 4294967296 - w ≡ suc (4294967295 - w) = omega arith in
-    rw (le-ltb w 2147483648 h, e) refl
 
 -- One order number more.
 numbers_more : (ns : List ℕ) (n : ℕ) → number_fields ns ++ field (32 ∷ []) n ≡ number_fields (ns ++ (n ∷ []))

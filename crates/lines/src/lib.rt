@@ -3,9 +3,11 @@
 #![tactic(auto)]
 
 ghost use Rattle.std.specs.Prelude.{◌+◌, ◌*◌, ◌≤◌, length};
+ghost use Rattle.std.proofs.Math.IntN.{sub_ℕ};
 ghost use Rattle.schedule.specs.Limits.{most_rows};
 ghost use Rattle.results.specs.Results.{signed};
 ghost use Rattle.lines.specs.LineBytes.{field, late_field, number_fields, two_fields, refused_line, rows_line, plan_line};
+ghost use Rattle.lines.specs.SignedFields.{signed_field};
 ghost use Rattle.lines.specs.Added.{Added};
 
 // Bytes.
@@ -13,12 +15,9 @@ pub fn put(sheet: &mut [u8], at: usize, bytes: &[u8]) -> usize
     requires { at + length bytes.now ≤ length sheet.old }
     ensures { Added result at (length bytes.now) sheet.old bytes.now sheet.new }
 {
-    let mut i: usize = 0;
-    while i < bytes.len() {
-        sheet[at + i] = bytes[i];
-        i += 1;
-    }
-    at + i
+    let end = at + bytes.len();
+    sheet[at..end].copy_from_slice(bytes);
+    end
 }
 
 // A field: a fixed word, and a number.
@@ -33,16 +32,30 @@ pub fn put_field(sheet: &mut [u8], at: usize, word: &[u8], number: u64) -> usize
     put(sheet, end, &digits[..size])
 }
 
+// A field whose number is signed: what `plus` is above `minus`, or below it.
+pub fn put_signed(sheet: &mut [u8], at: usize, word: &[u8], plus: u64, minus: u64) -> usize
+    requires { at + (length word.now + 21) ≤ length sheet.old }
+    ensures { Added result at (length word.now + 21) sheet.old
+        (signed_field word.now (sub_ℕ plus minus)) sheet.new }
+{
+    if plus < minus {
+        let end = put(sheet, at, word);
+        return put_field(sheet, end, b"-", minus - plus);
+    }
+    put_field(sheet, at, word, plus - minus)
+}
+
 // The field of a lateness, which is held in two's complement.
 fn put_late(sheet: &mut [u8], at: usize, late: u32) -> usize
     requires { at + 27 ≤ length sheet.old }
     ensures { Added result at 27 sheet.old (late_field (signed late)) sheet.new }
 {
-    let number = late as u64;
-    if number < 2_147_483_648 {
-        return put_field(sheet, at, b" late ", number);
-    }
-    put_field(sheet, at, b" late -", 4_294_967_296 - number)
+    let above = if late < 2_147_483_648 {
+        0
+    } else {
+        4_294_967_296
+    };
+    put_signed(sheet, at, b" late ", u64::from(late), above)
 }
 
 // The order numbers, a field each.
@@ -52,10 +65,8 @@ fn put_numbers(sheet: &mut [u8], at: usize, numbers: &[u32]) -> usize
         (number_fields numbers.now) sheet.new }
 {
     let mut end = at;
-    let mut k: usize = 0;
-    while k < numbers.len() {
-        end = put_field(sheet, end, b" ", numbers[k] as u64);
-        k += 1;
+    for number in numbers {
+        end = put_field(sheet, end, b" ", u64::from(*number));
     }
     end
 }
@@ -83,7 +94,14 @@ pub fn refused_line(sheet: &mut [u8], at: usize, number: u32, place: usize) -> u
     requires { at + 53 ≤ length sheet.old }
     ensures { Added result at 53 sheet.old (refused_line number place) sheet.new }
 {
-    put_two(sheet, at, b"refused ", number as u64, b" at ", place as u64)
+    put_two(
+        sheet,
+        at,
+        b"refused ",
+        u64::from(number),
+        b" at ",
+        place as u64,
+    )
 }
 
 // The line that counts rows and plans.
@@ -107,7 +125,7 @@ pub fn plan_line(
     ensures { Added result at 2900 sheet.old (plan_line plan end (signed late) numbers.now) sheet.new }
 {
     let mut next = put_field(sheet, at, b"plan ", plan as u64);
-    next = put_field(sheet, next, b" end ", end as u64);
+    next = put_field(sheet, next, b" end ", u64::from(end));
     next = put_late(sheet, next, late);
     next = put(sheet, next, b" order");
     next = put_numbers(sheet, next, numbers);

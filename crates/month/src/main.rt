@@ -32,10 +32,8 @@ fn take_days(input: &mut impl Read, window: &mut [u8], sheet: &mut [u8]) -> io::
 {
     let mut totals = Totals::begin();
     let mut have = streams::read_full(input, window)?;
-    let mut turns: u32 = 0;
-    while turns <= Totals::DAYS {
-        let step = month_step::take_day(totals, &window[..have]);
-        match step {
+    for _ in 0..=Totals::DAYS {
+        match month_step::take_day(totals, &window[..have]) {
             Step::End => return Ok(report_lines::report(sheet, totals)),
             Step::Broken => return Ok(report_lines::refusal(sheet)),
             Step::Taken(next, used) => {
@@ -43,7 +41,6 @@ fn take_days(input: &mut impl Read, window: &mut [u8], sheet: &mut [u8]) -> io::
                 have = move_on(input, window, used, have)?;
             }
         }
-        turns += 1;
     }
     Ok(report_lines::refusal(sheet))
 }

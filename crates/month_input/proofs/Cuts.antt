@@ -1,5 +1,5 @@
 -- The day at the start of some words, by the tests that the code makes. Assumes nothing.
-use Prim.Native.Nat.{ℕ, suc, ◌+◌, ◌-◌, ◌≤◌, ◌<◌}
+use Prim.Native.Nat.{ℕ, suc, ◌+◌, ◌≤◌, ◌<◌}
 use native.Mathlib.Omega.{arith}
 use native.Mathlib.Decide.{dec_lt}
 use mathlib.Core.Bool.{cond, ◌&&◌}
@@ -9,7 +9,7 @@ use borrow.Author.Tests.{le-leb, lt-leb}
 use lib.Dec.{leb}
 use lib.ListN.{length, take, drop, get_or, length-drop, drop_of_length-le}
 use lib.Seq.{drop-cons, drop-drop}
-use Rattle.month_input.specs.Layout.{PostedDay, Cut, whole, broken, most_book, most_posting, cut_posting, cut_day}
+use Rattle.month_input.specs.Layout.{whole, broken, most_book, most_posting, cut_posting, cut_day}
 use Rattle.month_input.specs.Windows.{day_at}
 
 pub cut_none : (words : List ℕ) → length words ≡ 0 → cut_day words ≡ broken

@@ -3,7 +3,7 @@ use Prim.Native.Nat.{ℕ, zero, suc, ◌+◌, ◌-◌, ◌*◌, ◌%◌, ◌≤�
 use native.Mathlib.Omega.{arith}
 use native.Mathlib.Decide.{ℕ_discrete}
 use mathlib.Core.Bool.{Bool, true, false, cond}
-use mathlib.Core.Path.{◌≡◌, refl, sym, ap, ◌∙◌, subst}
+use mathlib.Core.Path.{◌≡◌, refl, sym, ap, ◌∙◌}
 use mathlib.Core.List.{List, [], ◌∷◌, ◌++◌, append_assoc}
 use mathlib.Core.Option.{Option, none, some}
 use lib.Dec.{T, eqb, eqb→eq}
@@ -13,7 +13,7 @@ use Rattle.input.specs.Input.{words_in}
 use Rattle.month_input.specs.Layout.{PostedDay, most_words, size_of, Cut, whole, broken, cut_day, day_before, days_in, input_days}
 use Rattle.month_input.specs.WrittenMonth.{day_words}
 use Rattle.month_input.proofs.Bytes.{first_of, words_within, enough, words_after}
-use Rattle.month_input.proofs.WrittenMonth.{day_length, day_written, no_day_lem, Front, day_front, next_day_lem, no_next_day, even}
+use Rattle.month_input.proofs.WrittenMonth.{day_length, day_written, no_day_lem, day_front, next_day_lem, no_next_day, even}
 
 -- The day at the start of some words, and of the first of them.
 module _ (ws : List ℕ) where

@@ -1,6 +1,6 @@
 -- The input of `month`: days one after another, each a book and a posting with their lengths before them.
 -- Rests on: the words of an input.
-use Rattle.std.specs.Prelude.{ℕ, zero, suc, ◌+◌, ◌*◌, ◌%◌, cond, ◌&&◌, List, [], ◌∷◌, leb, eqb, length, take, drop}
+use Rattle.std.specs.Prelude.{ℕ, zero, suc, ◌+◌, ◌%◌, cond, ◌&&◌, List, [], ◌∷◌, leb, eqb, length, take, drop}
 use Rattle.std.proofs.Math.Option.{Option, none, some}
 use Rattle.input.specs.Input.{words_in}
 

@@ -15,35 +15,35 @@ pub const WORDS: usize = 1_287;
 
 pub const WINDOW: usize = 5_148;
 
-// A day at the start of some words: the words of its book, and the entries of its posting.
+// A day at the start of some words: how many words its book has, and how many entries its posting.
 #[derive(Clone, Copy)]
-pub enum Extent {
-    Whole(usize, usize),
-    Broken,
+pub struct Extent {
+    pub book: usize,
+    pub posting: usize,
 }
 
-// The day at the start of some words: the book's length, the book, the posting's length, the posting.
-pub fn cut_day(words: &[u32]) -> Extent
+// The day at the start of some words, if there is one: the book's length, the book, the posting's length, the posting.
+pub fn cut_day(words: &[u32]) -> Option<Extent>
     ensures { (cut_day words.now ≡ cut_of words.now result) × ExtentWithin (length words.now) result }
 {
     if words.len() == 0 {
-        return Extent::Broken;
+        return None;
     }
     let book = words[0] as usize;
     if BOOK < book {
-        return Extent::Broken;
+        return None;
     }
     if words.len() < book + 2 {
-        return Extent::Broken;
+        return None;
     }
     let posting = words[book + 1] as usize;
     if POSTING < posting {
-        return Extent::Broken;
+        return None;
     }
     if words.len() < book + posting + 2 {
-        return Extent::Broken;
+        return None;
     }
-    Extent::Whole(book, posting)
+    Some(Extent { book, posting })
 }
 
 // Moves the bytes after the first `used` of the `have` that a window holds to its front: how many.
@@ -52,10 +52,6 @@ pub fn slide(window: &mut [u8], used: usize, have: usize) -> usize
     ensures { (result ≡ have - used) × (take result window.new ≡ take result (drop used window.old)) ×
         (length window.new ≡ length window.old) }
 {
-    let mut i: usize = 0;
-    while i < have - used {
-        window[i] = window[used + i];
-        i += 1;
-    }
-    i
+    window[..have].rotate_left(used);
+    have - used
 }

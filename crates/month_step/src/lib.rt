@@ -26,8 +26,8 @@ fn day_of(totals: Totals, words: &[u32]) -> Step
 {
     let cut = month_input::cut_day(words);
     match cut {
-        Extent::Broken => Step::Broken,
-        Extent::Whole(book, posting) => {
+        None => Step::Broken,
+        Some(Extent { book, posting }) => {
             let book_end = book + 1;
             let start = book + 2;
             let end = start + posting;

@@ -1,2 +1,1 @@
 pub mod ReportBytes
-pub mod SignedFields

@@ -3,7 +3,7 @@
 use Rattle.std.specs.Prelude.{ℕ, zero, suc, ◌+◌, List, [], ◌∷◌, ◌++◌, ℤ}
 use Rattle.lines.specs.Decimal.{open_decimal}
 use Rattle.lines.specs.LineBytes.{newline, field, open_line_bytes}
-use Rattle.report_lines.specs.SignedFields.{signed_field}
+use Rattle.lines.specs.SignedFields.{signed_field}
 use Rattle.totals.specs.Report.{Report}
 use Rattle.totals.specs.Mean.{Mean, mean_of, open_mean}
 

@@ -5,7 +5,6 @@
 ghost use Rattle.std.specs.Prelude.{◌+◌, ◌*◌, ◌≤◌, length};
 ghost use Rattle.std.proofs.Math.IntN.{sub_ℕ};
 ghost use Rattle.lines.specs.Added.{Added};
-ghost use Rattle.report_lines.specs.SignedFields.{signed_field};
 ghost use Rattle.totals.specs.Held.{days, report_by, mean_by, SumsFit};
 ghost use Rattle.report_lines.specs.ReportBytes.{number_line, days_line, late_line, mean_fields, mean_line, report_bytes, refused_bytes};
 
@@ -13,19 +12,6 @@ use totals::{RaisedMean, Totals};
 
 // The bytes of a sheet: room for all lines.
 pub const SHEET: usize = 256;
-
-// A field whose number is signed: what `plus` is above `minus`, or below it.
-fn put_signed(sheet: &mut [u8], at: usize, word: &[u8], plus: u64, minus: u64) -> usize
-    requires { at + (length word.now + 21) ≤ length sheet.old }
-    ensures { Added result at (length word.now + 21) sheet.old
-        (signed_field word.now (sub_ℕ plus minus)) sheet.new }
-{
-    if plus < minus {
-        let end = lines::put(sheet, at, word);
-        return lines::put_field(sheet, end, b"-", minus - plus);
-    }
-    lines::put_field(sheet, at, word, plus - minus)
-}
 
 // A line of one number.
 fn number_line(sheet: &mut [u8], at: usize, word: &[u8], number: u64) -> usize
@@ -42,9 +28,9 @@ fn days_line(sheet: &mut [u8], at: usize, accepted: u32, refused: u32) -> usize
     requires { (at + 90 ≤ length sheet.old) × (accepted + refused ≤ 31) }
     ensures { Added result at 85 sheet.old (days_line accepted refused) sheet.new }
 {
-    let mut end = lines::put_field(sheet, at, b"days ", (accepted + refused) as u64);
-    end = lines::put_field(sheet, end, b" accepted ", accepted as u64);
-    number_line(sheet, end, b" refused ", refused as u64)
+    let mut end = lines::put_field(sheet, at, b"days ", u64::from(accepted + refused));
+    end = lines::put_field(sheet, end, b" accepted ", u64::from(accepted));
+    number_line(sheet, end, b" refused ", u64::from(refused))
 }
 
 // The line of the total worst lateness. Each of the latenesses that were added up is raised by 2^31.
@@ -52,7 +38,13 @@ fn late_line(sheet: &mut [u8], at: usize, late: u64, accepted: u32) -> usize
     requires { (at + 30 ≤ length sheet.old) × (accepted ≤ 31) }
     ensures { Added result at 27 sheet.old (late_line (sub_ℕ late (accepted * 2147483648))) sheet.new }
 {
-    let end = put_signed(sheet, at, b"late ", late, accepted as u64 * 2_147_483_648);
+    let end = lines::put_signed(
+        sheet,
+        at,
+        b"late ",
+        late,
+        u64::from(accepted) * 2_147_483_648,
+    );
     lines::put(sheet, end, b"\n")
 }
 
@@ -61,7 +53,7 @@ fn mean_fields(sheet: &mut [u8], at: usize, mean: RaisedMean) -> usize
     requires { at + 60 ≤ length sheet.old }
     ensures { Added result at 58 sheet.old (mean_fields (mean_by mean)) sheet.new }
 {
-    let end = put_signed(sheet, at, b"mean ", mean.quotient, 2_147_483_648);
+    let end = lines::put_signed(sheet, at, b"mean ", mean.quotient, 2_147_483_648);
     number_line(sheet, end, b" remainder ", mean.remainder)
 }
 
@@ -82,7 +74,7 @@ pub fn report(sheet: &mut [u8], totals: Totals) -> usize
     ensures { Added result 0 256 sheet.old (report_bytes (report_by totals)) sheet.new }
 {
     let mut end = days_line(sheet, 0, totals.accepted, totals.refused);
-    end = number_line(sheet, end, b"beaten ", totals.beaten as u64);
+    end = number_line(sheet, end, b"beaten ", u64::from(totals.beaten));
     end = number_line(sheet, end, b"idle ", totals.idle);
     end = late_line(sheet, end, totals.late, totals.accepted);
     mean_line(sheet, end, totals)

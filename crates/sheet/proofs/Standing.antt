@@ -1,6 +1,6 @@
 -- A book's table and plans stand in the definition: the line of each plan. And signed words.
 -- Assumes nothing.
-use Prim.Native.Nat.{ℕ, zero, suc, ◌+◌, ◌-◌, ◌*◌, ◌≤◌, ◌<◌}
+use Prim.Native.Nat.{ℕ, zero, suc, ◌+◌, ◌*◌, ◌≤◌, ◌<◌}
 use mathlib.Core.Path.{◌≡◌, refl, ap, sym, ◌∙◌}
 use mathlib.Core.List.{List, [], ◌∷◌, ◌++◌, append-nil, map}
 use mathlib.Core.Option.{some}
@@ -8,17 +8,14 @@ use native.Mathlib.Omega.{arith}
 use native.Mathlib.Decide.{dec_lt}
 use mir.Syntax.{w32}
 use mir.Val.{to_z, of_z}
-use mir.ValLaws.{to_z-of_z}
-use Rattle.schedule.proofs.SignedWords.{lowered_fits}
 use borrow.Author.Tests.{lt-ltb, le-ltb}
-use lib.IntN.{ℤ, pos, negsuc}
+use lib.IntN.{ℤ, negsuc}
+use Rattle.std.proofs.lemmas.Int.{of_z-to_z}
 use lib.ListN.{length, take, get_or, replicate, length-append, length-map, length-replicate}
 use lib.Seq.{take-append_seam, drop-length}
 use Rattle.schedule.specs.Limits.{most_rows}
 use Rattle.schedule.specs.Rows.{Day, row}
 use Rattle.schedule.specs.Desk.{Pair}
-use Rattle.schedule.specs.Offset.{lowered}
-use Rattle.schedule.proofs.Signed.{sub_cases}
 use Rattle.book.specs.declared.Table.{Table}
 use Rattle.schedule.specs.declared.Profile.TheVariants.{Ordering}
 use Rattle.book.specs.Rows.{accepted}
@@ -43,33 +40,17 @@ use Rattle.sheet.specs.Shown.{plan_lines, bytes_of}
 use Rattle.sheet.specs.Parts.{listed_lines, lines_of, line_for, Listed}
 use Rattle.sheet.proofs.Naming.{Numbers}
 
--- The number that a word in two's complement stands for.
-pub signed_below : (w : ℕ) → w < 2147483648 → lowered (w + 2147483648) ≡ signed w
+-- The number that a word in two's complement stands for, as the machine holds it.
+pub word_signed : (w : ℕ) → to_z w32 w ≡ signed w
 unfolding signed
-signed_below w h =
-    rw (lt-ltb w 2147483648 h)
-    (sub_cases (w + 2147483648) 2147483648 (λ z. z ≡ pos w) (λ k e. let z : ⊥ = omega arith in absurd z) (λ k e. ap pos (omega arith)))
-
-pub signed_above : (w : ℕ) → 2147483648 ≤ w → w < 4294967296 → lowered (w - 2147483648) ≡ signed w
-unfolding signed
-signed_above w h b =
-    rw (le-ltb w 2147483648 h)
-    (sub_cases (w - 2147483648) 2147483648 (λ z. z ≡ negsuc (4294967295 - w)) (λ k e. ap negsuc (omega arith))
-    (λ k e. let z : ⊥ = omega arith in absurd z))
-
--- A signed word as the machine holds it.
-signed_lowered : (w : ℕ) → w < 4294967296 → (n : ℕ) × (n < 4294967296) × (lowered n ≡ signed w)
-signed_lowered w b = go (dec_lt w 2147483648)
+word_signed w = step (dec_lt w 2147483648)
   where
-    go : Dec (w < 2147483648) → (n : ℕ) × (n < 4294967296) × (lowered n ≡ signed w)
-    go (yes h) = (w + 2147483648, omega arith, signed_below w h)
-    go (no h) = (w - 2147483648, omega arith, signed_above w (omega arith) b)
+    step : Dec (w < 2147483648) → to_z w32 w ≡ signed w
+    step (yes h) = rw (lt-ltb w 2147483648 h) refl
+    step (no h) = rw (le-ltb w 2147483648 (omega arith)) (ap negsuc (omega arith))
 
 pub signed_word : (w : ℕ) → w < 4294967296 → (z : ℤ) → z ≡ signed w → to_z w32 (of_z w32 z) ≡ signed w
-signed_word w b z e =
-    let l = signed_lowered w b in
-    ap (λ (y : ℤ). to_z w32 (of_z w32 y)) (e ∙ sym l.2) ∙
-    (to_z-of_z w32 (lowered l.0) (record { sfits = lowered_fits l.0 l.1 }) ∙ l.2)
+signed_word w b z e = ap (λ (y : ℤ). to_z w32 (of_z w32 y)) (e ∙ sym (word_signed w)) ∙ (ap (to_z w32) (of_z-to_z w32 w b) ∙ word_signed w)
 
 -- Plan k of those that stand in a buffer.
 abbrev pub pair_in : List ℕ → ℕ → Pair

@@ -29,10 +29,7 @@ pub const SHEET: usize = 750_000;
 fn signed_of(word: u32) -> i32
     ensures { result ≡ signed word }
 {
-    if word < 2_147_483_648 {
-        return schedule::lower(word + 2_147_483_648);
-    }
-    schedule::lower(word - 2_147_483_648)
+    word.cast_signed()
 }
 
 // The order number of each row, at the row's place from 1.
@@ -40,13 +37,9 @@ fn numbers_of(table: Table) -> [u32; Desk::PLACES]
     requires { table.count ≤ most_rows }
     ensures { (length result ≡ row_places) × ((i : ℕ) → get_or result i 0 ≡ (row (table_rows table) i).number) }
 {
-    let count = table.count;
     let mut numbers = [0u32; Desk::PLACES];
-    let mut i: usize = 0;
-    while i < count {
-        let row = table.rows[i];
-        i += 1;
-        numbers[i] = row.number;
+    for (i, row) in table.rows[..table.count].iter().enumerate() {
+        numbers[i + 1] = row.number;
     }
     numbers
 }
@@ -65,10 +58,8 @@ fn name_rows(numbers: &[u32; Desk::PLACES], order: &mut [u32])
     requires { length numbers.now ≡ row_places }
     ensures { order.new ≡ map (λ i. get_or numbers.now i 0) order.old }
 {
-    let mut k: usize = 0;
-    while k < order.len() {
-        order[k] = number_at(numbers, order[k]);
-        k += 1;
+    for row in order.iter_mut() {
+        *row = number_at(numbers, *row);
     }
 }
 
@@ -131,13 +122,10 @@ fn put_plans(
     ensures { Added result at (2900 * count) sheet.old (plan_lines 1 (lines_of book.now)) sheet.new }
 {
     let mut next = at;
-    let mut k: usize = 0;
-    while k < count {
+    for k in 0..count {
         let end = plans[2 * k];
         let late = plans[2 * k + 1];
-        let plan = k + 1;
-        next = put_plan(book, numbers, rows, plan, end, late, sheet, next);
-        k = plan;
+        next = put_plan(book, numbers, rows, k + 1, end, late, sheet, next);
     }
     next
 }
@@ -174,6 +162,6 @@ pub fn fill(input: &[u8], sheet: &mut [u8; SHEET]) -> usize
     ensures { Counted result sheet.new (shown input.now) }
 {
     let mut words = [0u32; WORDS];
-    let count = input::words_of(input, &mut words);
+    let count = input::words_within(input, &mut words);
     put_lines(input, &words[..count], sheet)
 }

@@ -2,8 +2,8 @@
 -- Assumes nothing.
 use native.Mathlib.Omega.{arith}
 use Rattle.lines.proofs.Adding.{then_added, same_added}
-use Rattle.report_lines.proofs.Signed.{field_positive, field_negative}
-use Rattle.report_lines.proofs.put_signed.Goals as goal
+use Rattle.lines.proofs.Signed.{field_positive, field_negative}
+use Rattle.lines.proofs.put_signed.Goals as goal
 
 pub returns-then-plus-minus : goal.returns-then-plus-minus
 returns-then-plus-minus c =
