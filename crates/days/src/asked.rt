@@ -2,130 +2,170 @@
 use outcomes::{ListAnswer, OrderAnswer, VerdictAnswer};
 use row_calls::RowPlace;
 use schedule::Desk;
+use std::fmt;
 
-// The number and the place of a refusal. Where the number is 0: a place or a count, an end, and a worst lateness in two's complement.
-#[derive(Clone, Copy)]
-pub struct Answer {
+// Why a call is refused: a number of the table of refusals, and a place.
+#[derive(Clone, Copy, PartialEq, Eq)]
+pub struct Refusal {
     pub number: u32,
     pub place: usize,
+}
+
+impl Refusal {
+    pub const CUT: u32 = 1;
+
+    pub const KIND: u32 = 2;
+
+    pub const RANGE: u32 = 3;
+
+    pub const TWICE: u32 = 4;
+
+    pub const DISORDER: u32 = 8;
+
+    const NOT_POSTING: u32 = 10;
+}
+
+impl fmt::Display for Refusal {
+    fn fmt<W: fmt::Write>(&self, f: &mut fmt::Formatter<W>) -> fmt::Result {
+        write!(f, "{}@{}", self.number, self.place)
+    }
+}
+
+// An end and a worst lateness.
+#[derive(Clone, Copy)]
+pub struct Pair {
     pub end: u32,
-    pub late: u32,
+    pub late: i32,
 }
 
-fn refused(number: u32, place: usize) -> Answer {
-    Answer {
-        number: number,
-        place: place,
-        end: 0,
-        late: 0,
+impl fmt::Display for Pair {
+    fn fmt<W: fmt::Write>(&self, f: &mut fmt::Formatter<W>) -> fmt::Result {
+        write!(f, "({} {})", self.end, self.late)
     }
 }
 
-fn given(place: usize, end: u32, late: i32) -> Answer {
-    Answer {
-        number: 0,
-        place: place,
-        end: end,
-        late: late.cast_unsigned(),
-    }
+// The pair of a posting, and the number of the plan that beats it.
+#[derive(Clone, Copy)]
+pub struct Judged {
+    pub pair: Pair,
+    pub beaten_by: Option<usize>,
 }
 
-fn listed(answer: ListAnswer) -> Answer {
-    match answer {
-        ListAnswer::Plans(count) => given(count, 0, 0),
-        ListAnswer::Refused(number, place) => refused(number, place),
-    }
+// A call that fills a result buffer.
+#[derive(Clone, Copy)]
+pub enum Call {
+    List,
+    OrderOfPlan(u32),
+    OrderForBound(i32),
 }
 
-fn ordered(answer: OrderAnswer) -> Answer {
-    match answer {
-        OrderAnswer::Pair(end, late) => given(0, end, late),
-        OrderAnswer::Refused(number, place) => refused(number, place),
-    }
+// What such a call gives: how many plans are listed, or the pair of the order.
+#[derive(Clone, Copy)]
+pub enum Given {
+    Plans(usize),
+    Order(Pair),
 }
 
-// The number of the plan that beats is the place, and 0 where none does.
-fn judged(answer: VerdictAnswer) -> Answer {
-    match answer {
-        VerdictAnswer::Unbeaten(end, late) => given(0, end, late),
-        VerdictAnswer::Beaten(end, late, plan) => given(plan, end, late),
-        VerdictAnswer::Refused(number, place) => refused(number, place),
-    }
-}
-
-fn found(answer: RowPlace) -> Answer {
-    match answer {
-        RowPlace::At(place) => given(place, 0, 0),
-        RowPlace::Refused(number, place) => refused(number, place),
-    }
-}
-
-// A call that fills a result buffer: l, the list; o, the order of plan k; f, the order for the bound k, in two's complement.
-pub fn ask(call: u8, opening: u32, book: &[u32], k: u32, words: &mut [u32]) -> Answer {
-    match call {
-        b'l' => listed(planner::list(opening, book, words)),
-        b'o' => ordered(planner::order_of_plan(opening, book, k, words)),
-        _ => {
-            let bound = k.cast_signed();
-            ordered(planner::order_for_bound(opening, book, bound, words))
+impl fmt::Display for Given {
+    fn fmt<W: fmt::Write>(&self, f: &mut fmt::Formatter<W>) -> fmt::Result {
+        match self {
+            Given::Plans(count) => write!(f, "{count}"),
+            Given::Order(pair) => write!(f, "{pair}"),
         }
     }
 }
 
-pub fn verdict(opening: u32, book: &[u32], posting: &[u32]) -> Answer {
-    judged(planner::verdict(opening, book, posting))
-}
-
-pub fn row_place(book: &[u32], k: u32) -> Answer {
-    found(planner::row_place(book, k))
-}
-
-pub fn row_words<'a>(book: &'a [u32], k: u32) -> &'a [u32] {
-    planner::row_words(book, k)
-}
-
-// What the number says that the calls differ.
-pub const DIFFERENT: u32 = 99;
-
-fn both(a: Answer, b: Answer) -> Answer {
-    if a.number == b.number && (a.number == 0 || a.place == b.place) {
-        return a;
-    }
-    refused(DIFFERENT, 0)
-}
-
-// An empty posting is none of any book.
-fn of_no_entries(a: Answer) -> Answer {
-    let number = a.number;
-    match number {
-        10 => given(0, 0, 0),
-        0 => refused(DIFFERENT, 0),
-        _ => a,
+fn list(opening: u32, book: &[u32], words: &mut [u32]) -> Result<usize, Refusal> {
+    match planner::list(opening, book, words) {
+        ListAnswer::Plans(count) => Ok(count),
+        ListAnswer::Refused(number, place) => Err(Refusal { number, place }),
     }
 }
 
-// A refused book has no row.
-fn no_words(a: Answer, words: &[u32]) -> Answer {
-    if a.number != 0 && words.len() != 0 {
-        return refused(DIFFERENT, 0);
+fn ordered(answer: OrderAnswer) -> Result<Pair, Refusal> {
+    match answer {
+        OrderAnswer::Pair(end, late) => Ok(Pair { end, late }),
+        OrderAnswer::Refused(number, place) => Err(Refusal { number, place }),
     }
-    a
 }
 
-// The refusal by the calls that are told an opening, in which they have to agree.
-fn of_opening(opening: u32, book: &[u32]) -> Answer {
+pub fn ask(call: Call, opening: u32, book: &[u32], words: &mut [u32]) -> Result<Given, Refusal> {
+    match call {
+        Call::List => Ok(Given::Plans(list(opening, book, words)?)),
+        Call::OrderOfPlan(plan) => {
+            let answer = planner::order_of_plan(opening, book, plan, words);
+            Ok(Given::Order(ordered(answer)?))
+        }
+        Call::OrderForBound(bound) => {
+            let answer = planner::order_for_bound(opening, book, bound, words);
+            Ok(Given::Order(ordered(answer)?))
+        }
+    }
+}
+
+pub fn verdict(opening: u32, book: &[u32], posting: &[u32]) -> Result<Judged, Refusal> {
+    match planner::verdict(opening, book, posting) {
+        VerdictAnswer::Unbeaten(end, late) => Ok(Judged {
+            pair: Pair { end, late },
+            beaten_by: None,
+        }),
+        VerdictAnswer::Beaten(end, late, plan) => Ok(Judged {
+            pair: Pair { end, late },
+            beaten_by: Some(plan),
+        }),
+        VerdictAnswer::Refused(number, place) => Err(Refusal { number, place }),
+    }
+}
+
+pub fn row_place(book: &[u32], row: u32) -> Result<usize, Refusal> {
+    match planner::row_place(book, row) {
+        RowPlace::At(place) => Ok(place),
+        RowPlace::Refused(number, place) => Err(Refusal { number, place }),
+    }
+}
+
+pub fn row_words<'a>(book: &'a [u32], row: u32) -> &'a [u32] {
+    planner::row_words(book, row)
+}
+
+// The calls differ in what they say of a book.
+#[derive(Clone, Copy)]
+pub struct Different;
+
+// The refusal of a book by the verdict on an empty posting, which is none of any book.
+fn refusal_of_no_entries(opening: u32, book: &[u32]) -> Result<Option<Refusal>, Different> {
+    match verdict(opening, book, &[]) {
+        Ok(_) => Err(Different),
+        Err(refusal) if refusal.number == Refusal::NOT_POSTING => Ok(None),
+        Err(refusal) => Ok(Some(refusal)),
+    }
+}
+
+// How many plans a book has, or its refusal, by the calls that are told an opening, in which they have to agree.
+fn plans_by_opening(opening: u32, book: &[u32]) -> Result<Result<usize, Refusal>, Different> {
     let mut words = [0u32; 512];
-    let mut a = ask(b'l', opening, book, 0, &mut words);
-    a = both(a, ask(b'o', opening, book, 1, &mut words));
-    a = both(a, ask(b'f', opening, book, 2_147_483_647, &mut words));
-    both(a, of_no_entries(verdict(opening, book, &[])))
+    let listed = list(opening, book, &mut words);
+    let refusal = listed.err();
+    let of_plan = ask(Call::OrderOfPlan(1), opening, book, &mut words).err();
+    let for_bound = ask(Call::OrderForBound(i32::MAX), opening, book, &mut words).err();
+    let of_no_entries = refusal_of_no_entries(opening, book)?;
+    if of_plan == refusal && for_bound == refusal && of_no_entries == refusal {
+        Ok(listed)
+    } else {
+        Err(Different)
+    }
 }
 
-// The refusal of a book, in which all calls have to agree; of an opening that is refused only those that are told it.
-pub fn refusal(opening: u32, book: &[u32]) -> Answer {
-    let a = of_opening(opening, book);
+// How many plans a book has, or its refusal, in which all calls have to agree; of an opening that is refused only those that are told it.
+// A refused book has no row.
+pub fn plans(opening: u32, book: &[u32]) -> Result<Result<usize, Refusal>, Different> {
+    let listed = plans_by_opening(opening, book)?;
     if Desk::OPENING < opening {
-        return a;
+        return Ok(listed);
     }
-    no_words(both(a, row_place(book, 1)), row_words(book, 1))
+    let has_row = !row_words(book, 1).is_empty();
+    if row_place(book, 1).err() != listed.err() || (listed.is_err() && has_row) {
+        return Err(Different);
+    }
+    Ok(listed)
 }

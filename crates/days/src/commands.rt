@@ -1,227 +1,260 @@
 // The commands.
-use crate::asked::Answer;
-use crate::state::{State, WHOLE};
-use crate::{asked, say, state};
+use crate::asked::{Call, Different, Given, Refusal};
+use crate::word::Words;
+use crate::{asked, say, word};
 use std::io;
 use std::io::Write;
+
+// The most words of a book.
+const BOOK: usize = 1_100;
+
+// The most words of a result buffer: one that is as long takes any answer.
+const WHOLE: usize = 600;
 
 // What a result buffer holds before a call.
 const HELD: u32 = 777_777_777;
 
-// How many words of a buffer hold what they held.
-fn held(words: &[u32]) -> usize {
-    words.iter().filter(|word| **word == HELD).count()
+#[derive(Clone, Copy)]
+pub enum Command {
+    At,
+    Book,
+    Cut,
+    Digest,
+    Entries,
+    For,
+    Gaps,
+    Hits,
+    Into,
+    Judge,
+    Kinds,
+    List,
+    Moved,
+    Next,
+    Order,
+    Plus,
+    Row,
+    Set,
+    Test,
+    Using,
+    Values,
+    Words,
 }
 
-// A refusal, the count of a list, or a pair.
-fn brief(out: &mut impl Write, call: u8, a: Answer) -> io::Result<()> {
-    if a.number != 0 {
-        say::refusal(out, a.number, a.place)
-    } else if call == b'l' {
-        say::after(out, " ", a.place as u64)
-    } else {
-        say::pair(out, a.end, a.late)
+impl Command {
+    // A command by the first letter of its word.
+    pub fn of_letter(letter: u8) -> Option<Command> {
+        match letter {
+            b'a' => Some(Command::At),
+            b'b' => Some(Command::Book),
+            b'c' => Some(Command::Cut),
+            b'd' => Some(Command::Digest),
+            b'e' => Some(Command::Entries),
+            b'f' => Some(Command::For),
+            b'g' => Some(Command::Gaps),
+            b'h' => Some(Command::Hits),
+            b'i' => Some(Command::Into),
+            b'j' => Some(Command::Judge),
+            b'k' => Some(Command::Kinds),
+            b'l' => Some(Command::List),
+            b'm' => Some(Command::Moved),
+            b'n' => Some(Command::Next),
+            b'o' => Some(Command::Order),
+            b'p' => Some(Command::Plus),
+            b'r' => Some(Command::Row),
+            b's' => Some(Command::Set),
+            b't' => Some(Command::Test),
+            b'u' => Some(Command::Using),
+            b'v' => Some(Command::Values),
+            b'w' => Some(Command::Words),
+            _ => None,
+        }
     }
 }
 
-// The pairs of a list, or the rows of an order.
-fn filled(out: &mut impl Write, call: u8, a: Answer, words: &[u32], rows: usize) -> io::Result<()> {
-    if call == b'l' {
-        say::pairs(out, words, a.place)
-    } else {
-        say::values(out, state::first(words, rows))
-    }
-}
-
-// The whole answer of a call, where its buffer is long enough for any.
-fn whole(
-    out: &mut impl Write,
-    call: u8,
+// The book and the posting; the opening minutes, a place, the words of the result buffer, and by how much more each release and due rises
+// than the one above.
+#[derive(Drop)]
+pub struct State {
+    book: Words<BOOK>,
+    posting: Words<8>,
     opening: u32,
-    book: &[u32],
-    k: u32,
-    words: &mut [u32],
-) -> io::Result<()> {
-    let a = asked::ask(call, opening, book, k, words);
-    if call == b'l' && a.number == 0 {
-        say::text(out, " plans")?;
-    }
-    brief(out, call, a)?;
-    if a.number != 0 {
-        return Ok(());
-    }
-    filled(out, call, a, words, book.len() / 4)
+    place: usize,
+    size: usize,
+    rise: u32,
 }
 
-// The answer in brief, and how many words of the buffer hold what they held.
-fn into(
-    out: &mut impl Write,
-    call: u8,
-    opening: u32,
-    book: &[u32],
-    k: u32,
-    words: &mut [u32],
-) -> io::Result<()> {
-    brief(out, call, asked::ask(call, opening, book, k, words))?;
-    say::after(out, "+", held(words) as u64)
-}
-
-// A call that fills a buffer.
-fn ask(out: &mut impl Write, call: u8, s: &State, k: u32) -> io::Result<()> {
-    let mut words = [HELD; WHOLE];
-    let size = s.size;
-    let book = state::first(&s.book, s.length);
-    if size < WHOLE {
-        into(out, call, s.opening, book, k, &mut words[..size])
-    } else {
-        whole(out, call, s.opening, book, k, &mut words)
+impl State {
+    pub fn new() -> State {
+        State {
+            book: Words::new(),
+            posting: Words::new(),
+            opening: 0,
+            place: 0,
+            size: WHOLE,
+            rise: 0,
+        }
     }
-}
 
-// The list, and the orders of its plans up to the fourth.
-fn digest(out: &mut impl Write, s: &State) -> io::Result<()> {
-    ask(out, b'l', s, 0)?;
-    for plan in 1..5 {
-        say::text(out, ";")?;
-        ask(out, b'o', s, plan)?;
+    // A command.
+    pub fn command(&mut self, out: &mut impl Write, command: Command) -> io::Result<()> {
+        match command {
+            Command::Book => self.book.clear(),
+            Command::Digest => self.digest(out)?,
+            Command::Entries => self.posting.clear(),
+            Command::Judge => self.judge(out)?,
+            Command::List => self.ask(out, Call::List)?,
+            Command::Test => self.test(out, self.book.as_slice())?,
+            _ => {}
+        }
+        Ok(())
     }
-    Ok(())
-}
 
-// The verdict on a posting.
-fn judge(out: &mut impl Write, s: &State) -> io::Result<()> {
-    let a = asked::verdict(
-        s.opening,
-        state::first(&s.book, s.length),
-        state::first(&s.posting, s.entries),
-    );
-    brief(out, b'j', a)?;
-    if a.number != 0 {
-        return Ok(());
+    // A number after a command.
+    pub fn number(&mut self, out: &mut impl Write, command: Command, n: u32) -> io::Result<()> {
+        match command {
+            Command::At => self.place = n as usize,
+            Command::Book | Command::Plus => self.book.push(n),
+            Command::Cut => self.test(out, self.book.first(n as usize))?,
+            Command::Entries => self.posting.push(n),
+            Command::For => self.ask(out, Call::OrderForBound(n.cast_signed()))?,
+            Command::Gaps => self.rise = n,
+            Command::Hits => self.hits(out, n)?,
+            Command::Into => self.size = n as usize,
+            Command::Kinds => self.test_with(out, word::of(n, self.word()))?,
+            Command::Moved => self.test_with(out, word::moved(self.word(), n))?,
+            Command::Next => self.book.push_rows(n, self.rise),
+            Command::Order => self.ask(out, Call::OrderOfPlan(n))?,
+            Command::Row => self.row(out, n)?,
+            Command::Set => self.book.set(self.place, n),
+            Command::Using => self.opening = n,
+            Command::Values => self.test_with(out, word::with_value(self.word(), n))?,
+            Command::Words => self.test_with(out, n)?,
+            Command::Digest | Command::Judge | Command::List | Command::Test => {}
+        }
+        Ok(())
     }
-    if a.place == 0 {
-        say::text(out, " unbeaten")
-    } else {
-        say::after(out, " beaten by ", a.place as u64)
-    }
-}
 
-// The place of a row and its words, by their values.
-fn row(out: &mut impl Write, s: &State, k: u32) -> io::Result<()> {
-    let book = state::first(&s.book, s.length);
-    let a = asked::row_place(book, k);
-    if a.number == 0 {
-        say::after(out, " at ", a.place as u64)?;
-    } else {
-        say::refusal(out, a.number, a.place)?;
+    // The word at the place.
+    fn word(&self) -> u32 {
+        self.book.at(self.place)
     }
-    say::values(out, asked::row_words(book, k))
-}
 
-// The refusal of a book, or that it is taken.
-fn test(out: &mut impl Write, s: &State) -> io::Result<()> {
-    let a = asked::refusal(s.opening, state::first(&s.book, s.length));
-    let number = a.number;
-    match number {
-        0 => say::text(out, " taken"),
-        asked::DIFFERENT => say::text(out, " THE CALLS DIFFER"),
-        _ => say::refusal(out, number, a.place),
+    // A call that fills a buffer.
+    fn ask(&self, out: &mut impl Write, call: Call) -> io::Result<()> {
+        let mut words = [HELD; WHOLE];
+        if self.size < WHOLE {
+            self.ask_into(out, call, &mut words[..self.size])
+        } else {
+            self.ask_whole(out, call, &mut words)
+        }
     }
-}
 
-// A word with another kind, another value, its value moved, or another word.
-fn changed(command: u8, w: u32, v: u32) -> u32 {
-    let kind = w / 536_870_912;
-    match command {
-        b'k' => state::word(v, w),
-        b'v' => state::word(kind, v),
-        b'm' => state::word(kind, w.wrapping_add(v)),
-        _ => v,
+    // The answer in brief, and how many words of the buffer hold what they held.
+    fn ask_into(&self, out: &mut impl Write, call: Call, words: &mut [u32]) -> io::Result<()> {
+        match asked::ask(call, self.opening, self.book.as_slice(), words) {
+            Ok(given) => write!(out, " {given}")?,
+            Err(refusal) => write!(out, " {refusal}")?,
+        }
+        let held = words.iter().filter(|word| **word == HELD).count();
+        write!(out, "+{held}")
     }
-}
 
-// The book with the word at its place changed.
-fn with_changed(s: &State, v: u32) -> State {
-    let place = s.place;
-    let w = state::word_at(&s.book, place);
-    state::with(*s, place, changed(s.command, w, v))
+    // The whole answer, where its buffer is long enough for any.
+    fn ask_whole(&self, out: &mut impl Write, call: Call, words: &mut [u32]) -> io::Result<()> {
+        let book = self.book.as_slice();
+        match asked::ask(call, self.opening, book, words) {
+            Ok(Given::Plans(count)) => {
+                write!(out, " plans {count}")?;
+                say::pairs(out, words, count)
+            }
+            Ok(Given::Order(pair)) => {
+                write!(out, " {pair}")?;
+                let rows = words.len().min(book.len() / 4);
+                say::values(out, &words[..rows])
+            }
+            Err(refusal) => write!(out, " {refusal}"),
+        }
+    }
+
+    // The list, and the orders of its plans up to the fourth.
+    fn digest(&self, out: &mut impl Write) -> io::Result<()> {
+        self.ask(out, Call::List)?;
+        for plan in 1..5 {
+            write!(out, ";")?;
+            self.ask(out, Call::OrderOfPlan(plan))?;
+        }
+        Ok(())
+    }
+
+    // The verdict on the posting.
+    fn judge(&self, out: &mut impl Write) -> io::Result<()> {
+        let book = self.book.as_slice();
+        let verdict = match asked::verdict(self.opening, book, self.posting.as_slice()) {
+            Ok(verdict) => verdict,
+            Err(refusal) => return write!(out, " {refusal}"),
+        };
+        let pair = verdict.pair;
+        match verdict.beaten_by {
+            None => write!(out, " {pair} unbeaten"),
+            Some(plan) => write!(out, " {pair} beaten by {plan}"),
+        }
+    }
+
+    // The place of a row and its words, by their values.
+    fn row(&self, out: &mut impl Write, row: u32) -> io::Result<()> {
+        let book = self.book.as_slice();
+        match asked::row_place(book, row) {
+            Ok(place) => write!(out, " at {place}")?,
+            Err(refusal) => write!(out, " {refusal}")?,
+        }
+        say::values(out, asked::row_words(book, row))
+    }
+
+    // The refusal of a book, or that it is taken.
+    fn test(&self, out: &mut impl Write, book: &[u32]) -> io::Result<()> {
+        match asked::plans(self.opening, book) {
+            Ok(Ok(_)) => write!(out, " taken"),
+            Ok(Err(refusal)) => write!(out, " {refusal}"),
+            Err(Different) => write!(out, " THE CALLS DIFFER"),
+        }
+    }
+
+    // The same of the book with another word at the place.
+    fn test_with(&self, out: &mut impl Write, word: u32) -> io::Result<()> {
+        let changed = self.book.with(self.place, word);
+        self.test(out, changed.as_slice())
+    }
+
+    // At how many places the book can be refused with a number there.
+    fn hits(&self, out: &mut impl Write, number: u32) -> io::Result<()> {
+        let count = (0..self.book.len())
+            .filter(|place| self.is_hit(number, *place))
+            .count();
+        write!(out, " {count}")
+    }
+
+    // Whether the book is refused so, when it is made for it. Where the number is 0: whether it is taken, with as many plans.
+    fn is_hit(&self, number: u32, place: usize) -> bool {
+        let broken = broken(&self.book, number, place);
+        match asked::plans(self.opening, broken.as_slice()) {
+            Ok(Ok(count)) => number == 0 && count == place,
+            Ok(Err(refusal)) => {
+                let back = if number == Refusal::DISORDER { 3 } else { 0 };
+                refusal.number == number && place.checked_sub(back) == Some(refusal.place)
+            }
+            Err(Different) => false,
+        }
+    }
 }
 
 // The book made so that it is to be refused with a number at a place, or three words before it.
-fn broken(s: &State, number: u32, place: usize) -> State {
-    let w = state::word_at(&s.book, place);
+fn broken(book: &Words<BOOK>, number: u32, place: usize) -> Words<BOOK> {
+    let w = book.at(place);
     match number {
-        1 => state::cut(*s, place),
-        2 => state::with(*s, place, state::word((w / 536_870_912).wrapping_add(1), w)),
-        3 => state::with(*s, place, changed(b'v', w, 20_000_001)),
-        4 => state::with(*s, place, state::word(3, 1)),
-        _ => state::with(*s, place, state::word(6, 6)),
+        Refusal::CUT => book.cut(place),
+        Refusal::KIND => book.with(place, word::with_next_kind(w)),
+        Refusal::RANGE => book.with(place, word::with_value(w, 20_000_001)),
+        Refusal::TWICE => book.with(place, word::of(3, 1)),
+        _ => book.with(place, word::of(6, 6)),
     }
-}
-
-fn is_hit(s: &State, number: u32, place: usize) -> bool {
-    let a = asked::refusal(s.opening, state::first(&s.book, s.length));
-    let back = if number == 8 { 3 } else { 0 };
-    a.number == number && a.place.wrapping_add(back) == place
-}
-
-// At how many places the book can be refused with a number there.
-fn hits(out: &mut impl Write, s: &State, number: u32) -> io::Result<()> {
-    let count = (0..s.length)
-        .filter(|place| is_hit(&broken(s, number, *place), number, *place))
-        .count();
-    say::after(out, " ", count as u64)
-}
-
-// What a number asks.
-fn asked(out: &mut impl Write, s: &State, v: u32) -> io::Result<()> {
-    let command = s.command;
-    match command {
-        b'c' => test(out, &state::cut(*s, v as usize)),
-        b'f' | b'o' => ask(out, command, s, v),
-        b'h' => hits(out, s, v),
-        b'k' | b'm' | b'v' | b'w' => test(out, &with_changed(s, v)),
-        b'r' => row(out, s, v),
-        _ => Ok(()),
-    }
-}
-
-// What a number changes.
-fn taken(s: State, v: u32) -> State {
-    let mut t = s;
-    let command = s.command;
-    match command {
-        b'a' => t.place = v as usize,
-        b'b' | b'p' => t = state::more(s, v),
-        b'e' => t = state::posted(s, v),
-        b'g' => t.rise = v,
-        b'i' => t.size = v as usize,
-        b'n' => t = state::rows(s, v),
-        b's' => t = state::with(s, s.place, v),
-        b'u' => t.opening = v,
-        _ => {}
-    }
-    t
-}
-
-// A number after a command.
-pub fn number(out: &mut impl Write, s: State, v: u32) -> io::Result<State> {
-    asked(out, &s, v)?;
-    Ok(taken(s, v))
-}
-
-// A command.
-pub fn word(out: &mut impl Write, s: State, command: u8) -> io::Result<State> {
-    let mut t = s;
-    t.command = command;
-    match command {
-        b'b' => t.length = 0,
-        b'd' => digest(out, &s)?,
-        b'e' => t.entries = 0,
-        b'j' => judge(out, &s)?,
-        b'l' => ask(out, command, &s, 0)?,
-        b't' => test(out, &s)?,
-        _ => {}
-    }
-    Ok(t)
 }

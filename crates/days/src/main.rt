@@ -31,9 +31,9 @@ mod asked;
 mod commands;
 mod input;
 mod say;
-mod state;
+mod word;
 
-use state::State;
+use input::Input;
 use std::io;
 use std::io::Write;
 
@@ -41,9 +41,9 @@ use std::io::Write;
 const BYTES: usize = 65_536;
 
 fn run(out: &mut impl Write, bytes: &[u8]) -> io::Result<()> {
-    let mut s = State::new();
+    let mut input = Input::new();
     for byte in bytes {
-        s = input::read(out, s, *byte)?;
+        input.read(out, *byte)?;
     }
     Ok(())
 }

@@ -1,69 +1,60 @@
 // The offered calls. All that is asked of the planner is asked here.
+use crate::orders::Pair;
 use outcomes::{ListAnswer, OrderAnswer, VerdictAnswer};
 
-// The number and the place of a refusal. Where the number is 0: a count or a plan, an end, and a worst lateness, raised by 2^31.
-#[derive(Clone, Copy)]
-pub struct Answer {
+// Why a call is refused: a number of the table of refusals, and a place.
+#[derive(Clone, Copy, PartialEq, Eq)]
+pub struct Refusal {
     pub number: u32,
     pub place: usize,
-    pub end: u32,
-    pub late: u32,
 }
 
-fn refused(number: u32, place: usize) -> Answer {
-    Answer {
-        number: number,
-        place: place,
-        end: 0,
-        late: 0,
-    }
+impl Refusal {
+    pub const UNLISTED: u32 = 11;
+
+    pub const UNKEPT: u32 = 12;
 }
 
-fn given(place: usize, end: u32, late: i32) -> Answer {
-    Answer {
-        number: 0,
-        place: place,
-        end: end,
-        late: schedule::raise(late),
-    }
+// The pair of a posting, and the number of the plan that beats it.
+#[derive(Clone, Copy, PartialEq, Eq)]
+pub struct Judged {
+    pub pair: Pair,
+    pub beaten_by: Option<usize>,
 }
 
-fn listed(answer: ListAnswer) -> Answer {
+fn ordered(answer: OrderAnswer) -> Result<Pair, Refusal> {
     match answer {
-        ListAnswer::Plans(count) => given(count, 0, 0),
-        ListAnswer::Refused(number, place) => refused(number, place),
+        OrderAnswer::Pair(end, late) => Ok(Pair::new(end, late)),
+        OrderAnswer::Refused(number, place) => Err(Refusal { number, place }),
     }
 }
 
-fn ordered(answer: OrderAnswer) -> Answer {
-    match answer {
-        OrderAnswer::Pair(end, late) => given(0, end, late),
-        OrderAnswer::Refused(number, place) => refused(number, place),
+pub fn list(opening: u32, book: &[u32], words: &mut [u32]) -> Result<usize, Refusal> {
+    match planner::list(opening, book, words) {
+        ListAnswer::Plans(count) => Ok(count),
+        ListAnswer::Refused(number, place) => Err(Refusal { number, place }),
     }
 }
 
-// The number of the plan that beats is the place, and 0 where none does.
-fn judged(answer: VerdictAnswer) -> Answer {
-    match answer {
-        VerdictAnswer::Unbeaten(end, late) => given(0, end, late),
-        VerdictAnswer::Beaten(end, late, plan) => given(plan, end, late),
-        VerdictAnswer::Refused(number, place) => refused(number, place),
-    }
-}
-
-pub fn list(opening: u32, book: &[u32], words: &mut [u32]) -> Answer {
-    listed(planner::list(opening, book, words))
-}
-
-pub fn plan(opening: u32, book: &[u32], k: u32, words: &mut [u32]) -> Answer {
+pub fn plan(opening: u32, book: &[u32], k: u32, words: &mut [u32]) -> Result<Pair, Refusal> {
     ordered(planner::order_of_plan(opening, book, k, words))
 }
 
 // The bound is raised by 2^31.
-pub fn bound(opening: u32, book: &[u32], y: u32, words: &mut [u32]) -> Answer {
+pub fn bound(opening: u32, book: &[u32], y: u32, words: &mut [u32]) -> Result<Pair, Refusal> {
     ordered(planner::order_for_bound(opening, book, schedule::lower(y), words))
 }
 
-pub fn verdict(opening: u32, book: &[u32], posting: &[u32]) -> Answer {
-    judged(planner::verdict(opening, book, posting))
+pub fn verdict(opening: u32, book: &[u32], posting: &[u32]) -> Result<Judged, Refusal> {
+    match planner::verdict(opening, book, posting) {
+        VerdictAnswer::Unbeaten(end, late) => Ok(Judged {
+            pair: Pair::new(end, late),
+            beaten_by: None,
+        }),
+        VerdictAnswer::Beaten(end, late, plan) => Ok(Judged {
+            pair: Pair::new(end, late),
+            beaten_by: Some(plan),
+        }),
+        VerdictAnswer::Refused(number, place) => Err(Refusal { number, place }),
+    }
 }

@@ -13,7 +13,6 @@ mod compare;
 mod day;
 mod input;
 mod orders;
-mod say;
 mod tally;
 
 use input::Input;
@@ -24,9 +23,9 @@ use std::io::Write;
 const BYTES: usize = 150_000;
 
 fn run(out: &mut impl Write, bytes: &[u8]) -> io::Result<()> {
-    let mut s = Input::new(0);
+    let mut input = Input::new(0);
     for byte in bytes {
-        s = input::read(out, s, *byte)?;
+        input.read(out, *byte)?;
     }
     Ok(())
 }

@@ -1,53 +1,61 @@
-// What is counted, in the order in which it is printed.
-pub const BOOKS: usize = 0;
-
-// From 1 on: books with so many plans.
-pub const ONE_CLASS: usize = 9;
-
-pub const HALVES: usize = 10;
-
-pub const DROPPED: usize = 11;
-
-pub const UNSORTED: usize = 12;
-
-pub const TIES: usize = 13;
-
-pub const IDLE: usize = 14;
-
-pub const EARLY: usize = 15;
-
-pub const ORDERS: usize = 16;
-
-pub const LISTED: usize = 17;
-
-pub const BOUNDS: usize = 18;
-
-pub const UNKEPT: usize = 19;
-
-pub const VERDICTS: usize = 20;
-
-pub const UNBEATEN: usize = 21;
-
-pub const DIFFERENCES: usize = 22;
+// What is counted, in the order in which it is printed: first the books, and those with 1 to 8 plans.
+#[derive(Clone, Copy)]
+pub enum Count {
+    Books = 0,
+    OneClass = 9,
+    Halves,
+    Dropped,
+    Unsorted,
+    Ties,
+    Idle,
+    Early,
+    Orders,
+    Listed,
+    Bounds,
+    Unkept,
+    Verdicts,
+    Unbeaten,
+    Differences,
+}
 
 #[derive(Clone, Copy)]
 pub struct Tally {
-    pub counts: [u32; 24],
+    counts: [u32; 24],
 }
 
-// A count raised by some.
-pub fn add(t: Tally, place: usize, some: u32) -> Tally {
-    let mut u = t;
-    if place < 24 {
-        u.counts[place] = u.counts[place].wrapping_add(some);
+impl Tally {
+    // With nothing counted yet.
+    pub fn new() -> Tally {
+        Tally { counts: [0; 24] }
     }
-    u
-}
 
-// A count raised by 1, where a test holds.
-pub fn add_if(t: Tally, place: usize, test: bool) -> Tally {
-    if test {
-        return add(t, place, 1);
+    // The count at a place, or 0 where there is none.
+    pub fn at(&self, place: usize) -> u32 {
+        self.counts.get(place).copied().unwrap_or(0)
     }
-    t
+
+    fn add_at(&mut self, place: usize, some: u32) {
+        if let Some(count) = self.counts.get_mut(place) {
+            *count = count.wrapping_add(some);
+        }
+    }
+
+    // A count raised by some.
+    pub fn add(&mut self, count: Count, some: u32) {
+        self.add_at(count as usize, some);
+    }
+
+    // A count raised by 1, where a test holds.
+    pub fn add_if(&mut self, count: Count, test: bool) {
+        self.add(count, u32::from(test));
+    }
+
+    // A book more with so many plans.
+    pub fn add_plans(&mut self, plans: usize) {
+        self.add_at(plans, 1);
+    }
+
+    pub fn books(&self) -> u32 {
+        self.at(Count::Books as usize)
+    }
 }

@@ -1,7 +1,5 @@
 // The calls of the open desk, each with what is printed of its answer.
-ghost use Rattle.std.specs.Prelude.{◌≡◌, length};
-
-use crate::say;
+use crate::line::Line;
 use desk_open::OpenAnswer;
 use desk_pace::PaceAnswer;
 use desk_start::StartAnswer;
@@ -9,72 +7,100 @@ use outcomes::{ListAnswer, OrderAnswer};
 use std::io;
 use std::io::Write;
 
+#[derive(Clone, Copy)]
+pub enum Call {
+    Open,
+    Opening,
+    Start,
+    Pace,
+    Plans,
+    Order,
+}
+
+impl Call {
+    // A call by the last letter of its name.
+    pub fn of_letter(letter: u8) -> Option<Call> {
+        match letter {
+            b'n' => Some(Call::Open),
+            b'g' => Some(Call::Opening),
+            b't' => Some(Call::Start),
+            b'e' => Some(Call::Pace),
+            b's' => Some(Call::Plans),
+            b'r' => Some(Call::Order),
+            _ => None,
+        }
+    }
+
+    // The call with the numbers before it.
+    pub fn run(self, out: &mut impl Write, line: &Line, desk: &mut [u32]) -> io::Result<()> {
+        let first = line.numbers[0];
+        match self {
+            Call::Open => open(out, 0, line.given(), desk),
+            Call::Opening => open_with(out, line.given(), desk),
+            Call::Start => start(out, desk, first, line.numbers[1]),
+            Call::Pace => pace(out, desk, first),
+            Call::Plans => list(out, desk),
+            Call::Order => order(out, desk, first),
+        }
+    }
+}
+
 fn open(out: &mut impl Write, opening: u32, book: &[u32], desk: &mut [u32]) -> io::Result<()> {
     match open_desk::open(opening, book, desk) {
-        OpenAnswer::Opened(rows, minute) => {
-            say::number(out, rows as u64)?;
-            say::number(out, minute as u64)
-        }
-        OpenAnswer::Refused(number, place) => say::refusal(out, number, place),
+        OpenAnswer::Opened(rows, minute) => write!(out, " {rows} {minute}"),
+        OpenAnswer::Refused(number, place) => write!(out, " {number}@{place}"),
     }
 }
 
 // The opening minutes stand before the words of the book.
 fn open_with(out: &mut impl Write, numbers: &[u32], desk: &mut [u32]) -> io::Result<()> {
-    if numbers.is_empty() {
-        return Ok(());
+    match numbers {
+        [] => Ok(()),
+        [opening, book @ ..] => open(out, *opening, book, desk),
     }
-    open(out, numbers[0], &numbers[1..], desk)
 }
 
 fn start(out: &mut impl Write, desk: &mut [u32], row: u32, minute: u32) -> io::Result<()> {
     match open_desk::start(desk, row, minute) {
-        StartAnswer::Moved(end, y) => say::late(out, end, y),
-        StartAnswer::Refused(number, place) => say::refusal(out, number, place),
+        StartAnswer::Moved(end, late) => write!(out, " {end} {late}"),
+        StartAnswer::Refused(number, place) => write!(out, " {number}@{place}"),
     }
 }
 
 // A change that is accepted says nothing more: 0 in the place of a refusal.
 fn pace(out: &mut impl Write, desk: &mut [u32], pace: u32) -> io::Result<()> {
     match open_desk::change_pace(desk, pace) {
-        PaceAnswer::Changed => say::number(out, 0),
-        PaceAnswer::Refused(number, place) => say::refusal(out, number, place),
+        PaceAnswer::Changed => write!(out, " 0"),
+        PaceAnswer::Refused(number, place) => write!(out, " {number}@{place}"),
     }
 }
 
-fn list(out: &mut impl Write, desk: &[u32], res: &mut [u32]) -> io::Result<()> {
-    match open_desk::list(desk, res) {
-        ListAnswer::Plans(count) => say::number(out, count as u64)?,
-        ListAnswer::Refused(number, place) => say::refusal(out, number, place)?,
+fn list(out: &mut impl Write, desk: &[u32]) -> io::Result<()> {
+    let mut words = HELD;
+    match open_desk::list(desk, &mut words) {
+        ListAnswer::Plans(count) => write!(out, " {count}")?,
+        ListAnswer::Refused(number, place) => write!(out, " {number}@{place}")?,
     }
-    say::words(out, res)
+    values(out, &words)
 }
 
-fn order(out: &mut impl Write, desk: &[u32], plan: u32, res: &mut [u32]) -> io::Result<()> {
-    match open_desk::order_of_plan(desk, plan, res) {
-        OrderAnswer::Pair(end, y) => say::late(out, end, y)?,
-        OrderAnswer::Refused(number, place) => say::refusal(out, number, place)?,
+fn order(out: &mut impl Write, desk: &[u32], plan: u32) -> io::Result<()> {
+    let mut words = HELD;
+    match open_desk::order_of_plan(desk, plan, &mut words) {
+        OrderAnswer::Pair(end, late) => write!(out, " {end} {late}")?,
+        OrderAnswer::Refused(number, place) => write!(out, " {number}@{place}")?,
     }
-    say::words(out, res)
+    values(out, &words)
 }
 
-// A call by the last letter of its name, with the numbers before it.
-pub fn call(
-    out: &mut impl Write,
-    letter: u8,
-    words: &[u32],
-    count: usize,
-    desk: &mut [u32],
-) -> io::Result<()>
-    requires { length words.now ≡ 64 }
-{
-    match letter {
-        b'e' => pace(out, desk, words[0]),
-        b'g' => open_with(out, &words[..count % 65], desk),
-        b'n' => open(out, 0, &words[..count % 65], desk),
-        b'r' => order(out, desk, words[0], &mut [7u32; 9]),
-        b's' => list(out, desk, &mut [7u32; 9]),
-        b't' => start(out, desk, words[0], words[1]),
-        _ => Ok(()),
+// What a result buffer holds before a call.
+const HELD: [u32; 9] = [7; 9];
+
+// Words one after another, in two's complement.
+fn values(out: &mut impl Write, words: &[u32]) -> io::Result<()> {
+    for word in words {
+        let value = word.cast_signed();
+        write!(out, " {value}")?;
     }
+    Ok(())
 }

@@ -12,24 +12,21 @@
 // letter counts. A refusal is printed as number@place. After a list or an order come the nine words of the buffer, which are 7 before it.
 #![tactic(auto)]
 
-ghost use Rattle.std.specs.Prelude.{◌≡◌, length};
-
 mod desk_calls;
-mod input;
-mod say;
+mod line;
 
+use line::Line;
 use std::io;
 use std::io::Write;
 
 // The most bytes of the input.
 const BYTES: usize = 65_536;
 
-fn run(out: &mut impl Write, bytes: &[u8], words: &mut [u32], desk: &mut [u32]) -> io::Result<()>
-    requires { length words.old ≡ 64 }
-{
-    let mut s = input::LINE;
+fn run(out: &mut impl Write, bytes: &[u8]) -> io::Result<()> {
+    let mut line = Line::new();
+    let mut desk = [0u32; open_desk::WORDS];
     for byte in bytes {
-        s = input::read(out, s, *byte, words, desk)?;
+        line.read(out, *byte, &mut desk)?;
     }
     Ok(())
 }
@@ -37,7 +34,5 @@ fn run(out: &mut impl Write, bytes: &[u8], words: &mut [u32], desk: &mut [u32]) 
 fn main(rt: HostRuntime) -> io::Result<()> {
     let mut bytes = [0u8; BYTES];
     let size = streams::read_full(&mut rt.stdin(), &mut bytes)?;
-    let mut words = [0u32; input::ROOM];
-    let mut desk = [0u32; open_desk::WORDS];
-    run(&mut rt.stdout(), &bytes[..size], &mut words, &mut desk)
+    run(&mut rt.stdout(), &bytes[..size])
 }
