@@ -21,7 +21,7 @@ use several::SeveralAnswer;
 // open desk; an open desk's minute, or the latest free minute; of several desks the one that a refusal concerns, 0 for none, and the sum of
 // the overtimes. A field that a case does not speak of is 0.
 #[repr(C)]
-#[derive(Clone, Copy)]
+#[derive(Clone, Copy, Default)]
 pub struct Answer {
     pub place: usize,
     pub count: usize,
@@ -37,14 +37,9 @@ fn refused(number: u32, place: usize) -> Answer
     ensures { result ≡ answer_of (said_no number place) }
 {
     Answer {
-        place: place,
-        count: 0,
+        place,
         refusal: number,
-        end: 0,
-        late: 0,
-        minute: 0,
-        desk: 0,
-        overtime: 0,
+        ..Answer::default()
     }
 }
 
@@ -53,14 +48,8 @@ pub fn of_list(answer: ListAnswer) -> Answer
 {
     match answer {
         ListAnswer::Plans(count) => Answer {
-            place: 0,
-            count: count,
-            refusal: 0,
-            end: 0,
-            late: 0,
-            minute: 0,
-            desk: 0,
-            overtime: 0,
+            count,
+            ..Answer::default()
         },
         ListAnswer::Refused(number, place) => refused(number, place),
     }
@@ -71,14 +60,9 @@ pub fn of_order(answer: OrderAnswer) -> Answer
 {
     match answer {
         OrderAnswer::Pair(end, late) => Answer {
-            place: 0,
-            count: 0,
-            refusal: 0,
-            end: end,
-            late: late,
-            minute: 0,
-            desk: 0,
-            overtime: 0,
+            end,
+            late,
+            ..Answer::default()
         },
         OrderAnswer::Refused(number, place) => refused(number, place),
     }
@@ -89,24 +73,15 @@ pub fn of_verdict(answer: VerdictAnswer) -> Answer
 {
     match answer {
         VerdictAnswer::Unbeaten(end, late) => Answer {
-            place: 0,
-            count: 0,
-            refusal: 0,
-            end: end,
-            late: late,
-            minute: 0,
-            desk: 0,
-            overtime: 0,
+            end,
+            late,
+            ..Answer::default()
         },
         VerdictAnswer::Beaten(end, late, plan) => Answer {
-            place: 0,
             count: plan,
-            refusal: 0,
-            end: end,
-            late: late,
-            minute: 0,
-            desk: 0,
-            overtime: 0,
+            end,
+            late,
+            ..Answer::default()
         },
         VerdictAnswer::Refused(number, place) => refused(number, place),
     }
@@ -117,14 +92,8 @@ pub fn of_place(answer: RowPlace) -> Answer
 {
     match answer {
         RowPlace::At(place) => Answer {
-            place: place,
-            count: 0,
-            refusal: 0,
-            end: 0,
-            late: 0,
-            minute: 0,
-            desk: 0,
-            overtime: 0,
+            place,
+            ..Answer::default()
         },
         RowPlace::Refused(number, place) => refused(number, place),
     }
@@ -135,14 +104,9 @@ pub fn of_open(answer: OpenAnswer) -> Answer
 {
     match answer {
         OpenAnswer::Opened(rows, minute) => Answer {
-            place: 0,
             count: rows,
-            refusal: 0,
-            end: 0,
-            late: 0,
-            minute: minute,
-            desk: 0,
-            overtime: 0,
+            minute,
+            ..Answer::default()
         },
         OpenAnswer::Refused(number, place) => refused(number, place),
     }
@@ -153,14 +117,9 @@ pub fn of_start(answer: StartAnswer) -> Answer
 {
     match answer {
         StartAnswer::Moved(minute, worst) => Answer {
-            place: 0,
-            count: 0,
-            refusal: 0,
-            end: 0,
             late: worst,
-            minute: minute,
-            desk: 0,
-            overtime: 0,
+            minute,
+            ..Answer::default()
         },
         StartAnswer::Refused(number, place) => refused(number, place),
     }
@@ -170,16 +129,7 @@ pub fn of_pace(answer: PaceAnswer) -> Answer
     ensures { result ≡ answer_of (said_pace answer) }
 {
     match answer {
-        PaceAnswer::Changed => Answer {
-            place: 0,
-            count: 0,
-            refusal: 0,
-            end: 0,
-            late: 0,
-            minute: 0,
-            desk: 0,
-            overtime: 0,
-        },
+        PaceAnswer::Changed => Answer::default(),
         PaceAnswer::Refused(number, place) => refused(number, place),
     }
 }
@@ -189,24 +139,13 @@ pub fn of_several(answer: SeveralAnswer) -> Answer
 {
     match answer {
         SeveralAnswer::Chosen(late, overtime) => Answer {
-            place: 0,
-            count: 0,
-            refusal: 0,
-            end: 0,
-            late: late,
-            minute: 0,
-            desk: 0,
-            overtime: overtime,
+            late,
+            overtime,
+            ..Answer::default()
         },
         SeveralAnswer::Refused(number, at, desk) => Answer {
-            place: at,
-            count: 0,
-            refusal: number,
-            end: 0,
-            late: 0,
-            minute: 0,
-            desk: desk,
-            overtime: 0,
+            desk,
+            ..refused(number, at)
         },
     }
 }
@@ -216,14 +155,10 @@ pub fn of_latest(answer: LatestAnswer) -> Answer
 {
     match answer {
         LatestAnswer::From(free, end, late) => Answer {
-            place: 0,
-            count: 0,
-            refusal: 0,
-            end: end,
-            late: late,
+            end,
+            late,
             minute: free,
-            desk: 0,
-            overtime: 0,
+            ..Answer::default()
         },
         LatestAnswer::Refused(number, place) => refused(number, place),
     }
