@@ -3,7 +3,6 @@
 
 ghost use Rattle.std.specs.Prelude.{◌≡◌, ◌≤◌, ◌<◌, [], length, drop};
 ghost use Rattle.schedule.specs.Limits.{most_rows, least_pace, most_pace};
-ghost use Rattle.schedule.specs.Rows.{no_row};
 ghost use Rattle.words.specs.WordTests.{last_start};
 ghost use Rattle.book.specs.Rows.{end_stands, end_tests, tried_rows, read_rows};
 ghost use Rattle.book.specs.Book.{head_tests, read_words};
@@ -11,6 +10,16 @@ ghost use Rattle.book.specs.Tables.{reading_of};
 
 use refusals::Refusal;
 use schedule::{Desk, Row};
+
+// What stands in a place that holds no row.
+const NO_ROW: Row = Row {
+    number: 0,
+    release: 0,
+    length: 0,
+    due: 0,
+    class: None,
+    pages: 0,
+};
 
 // The rows that a book gives, with the free minute of the desk. Places from `count` on hold no row.
 #[derive(Drop)]
@@ -20,30 +29,11 @@ pub struct Table {
     pub rows: [Row; Desk::ROWS],
 }
 
-// What stands in a place that holds no row.
-fn no_row() -> Row
-    ensures { result ≡ no_row }
-{
-    Row {
-        number: 0,
-        release: 0,
-        length: 0,
-        due: 0,
-        class: None,
-        pages: 0,
-    }
-}
-
 // The end word stands at the start of the rest. It may stand only after a whole row.
 fn end_stands(count: usize, rest: &[u32]) -> bool
     ensures { result ≡ end_stands count rest.now }
 {
-    if 0 < count {
-        if 0 < rest.len() {
-            return words::kind_of(rest[0]) == 7;
-        }
-    }
-    false
+    0 < count && 0 < rest.len() && words::kind_of(rest[0]) == 7
 }
 
 // Count and tail at the end word.
@@ -63,11 +53,10 @@ fn read_rows(free: u32, pace: u32, book: &[u32]) -> Result<Table, Refusal>
     requires { (2 ≤ length book.now) × (least_pace ≤ pace) × (pace ≤ most_pace) }
     ensures { result ≡ reading_of (read_rows tried_rows free pace [] 2 (drop 2 book.now)) }
 {
-    let none = no_row();
-    let mut rows: [Row; Desk::ROWS] = [none; Desk::ROWS];
-    let mut numbers: [u32; Desk::ROWS] = [0; Desk::ROWS];
-    let mut count: usize = 0;
-    let mut at: usize = 2;
+    let mut rows = [NO_ROW; Desk::ROWS];
+    let mut numbers = [0; Desk::ROWS];
+    let mut count = 0;
+    let mut at = 2;
     loop {
         let rest = &book[at..];
         if end_stands(count, rest) {

@@ -1,10 +1,11 @@
 -- `read_rows` meets its contract: each turn of the loop is one step of `read_rows`, with the rest of the book as a part of its own.
 -- Assumes nothing.
 use Rattle.std.specs.Prelude.{Result, Ok}
+use Rattle.schedule.specs.Limits.{most_rows}
 use Rattle.schedule.specs.declared.Row.{Row}
 use Rattle.refusals.specs.declared.Refusal.{Refusal}
 use Rattle.refusals.proofs.Tests.{handed_on}
-use Prim.Native.Nat.{ℕ, ◌≤◌, ◌+◌, ◌-◌}
+use Prim.Native.Nat.{ℕ, ◌≤◌, ◌<◌, ◌+◌, ◌-◌}
 use native.Mathlib.Omega.{arith}
 use mathlib.Core.Bool.{Bool, true, false}
 use mathlib.Core.Path.{◌≡◌, ap, sym, ◌∙◌}
@@ -21,6 +22,7 @@ use Rattle.book.proofs.Tables.{part_end}
 use Rattle.book.proofs.Reached.{reached_start, reached_end, reached_end_refused, reached_refused, reached_room, reached_on, whole_tests}
 use Rattle.book.proofs.Reached.{whole_row, refused_tests}
 use Rattle.book.proofs.read_rows.Goals as goal
+use Rattle.book.proofs.read_rows.Goals.{In_ok-row}
 
 -- The end word does not stand at the start of the rest.
 stop : {b : Bool} (n k : ℕ) (ws : List ℕ) → b ≡ end_stands n (take (length ws - k) (drop k ws)) → b ≡ false →
@@ -34,14 +36,34 @@ row_is : {r : Result Row Refusal} (count at pace k : ℕ) (numbers ws : List ℕ
 row_is count at pace k numbers ws e =
     e ∙ ap (λ (rest : List ℕ). row_read_of (row_tests (take count numbers) at rest) (row_of pace rest)) (part_end k ws)
 
--- A row that passed its tests has four words.
-long : (at : ℕ) (numbers ws : List ℕ) → row_tests numbers at (drop at ws) ≡ Ok tt → at + 4 ≤ length ws
-long at numbers ws h = omega (arith, (row_fits numbers at (drop at ws) h).due.there, length-drop at ws)
+-- A row that was read is that of the rest, and its tests are passed: so there is room for it, and it has four words.
+module _ (c : In_ok-row) where
+  abbrev rest : List ℕ
+  rest = drop c.loop-numbers.at c.args.book.now
+
+  answer : Ok c.in_ok-row.row ≡ row_read_of (row_tests (take c.loop-numbers.count c.loop-numbers.numbers) c.loop-numbers.at rest)
+      (row_of c.args.pace rest)
+  answer =
+      let l = c.loop-numbers in
+      sym c.in_ok-row.was ∙ row_is l.count l.at c.args.pace l.at l.numbers c.args.book.now c.read_row.ensures
+
+  no_end : end_stands c.loop-numbers.count rest ≡ false
+  no_end = stop c.loop-numbers.count c.loop-numbers.at c.args.book.now c.end_stands.ensures c.if-end_stands.false
+
+  passed : row_tests (take c.loop-numbers.count c.loop-numbers.numbers) c.loop-numbers.at rest ≡ Ok tt
+  passed = whole_tests _ _ _ answer
+
+  room : c.loop-numbers.count < most_rows
+  room = reached_room c.loop-numbers.invariant.1 passed
+
+  four : c.loop-numbers.at + 4 ≤ length c.args.book.now
+  four =
+      let l = c.loop-numbers in
+      omega (arith, (row_fits (take l.count l.numbers) l.at rest passed).due.there, length-drop l.at c.args.book.now)
 
 pub loop-numbers-init : goal.loop-numbers-init
 unfolding table_of
-loop-numbers-init c =
-    (c.requires.0, rw c.no_row-none.ensures (reached_start c.args.free c.args.pace (drop 2 c.args.book.now)))
+loop-numbers-init c = (c.requires.0, reached_start c.args.free c.args.pace (drop 2 c.args.book.now))
 
 -- The tests of the end word, of the rest.
 ends : {o : Tested} (n at k : ℕ) (ws : List ℕ) → o ≡ end_tests n at (take (length ws - k) (drop k ws)) → o ≡ end_tests n at (drop k ws)
@@ -67,28 +89,25 @@ returns-then-end_stands c =
     (sym (ends l.count l.at l.at b c.end_tests.ensures) ∙ c.in_ok-end_tests.was)
 
 pub offset_bounds-numbers-count : goal.offset_bounds-numbers-count
-offset_bounds-numbers-count c = omega (
-  arith,
-  reached_room c.loop-numbers.invariant.1 (whole_tests _ _ _ (sym c.in_ok-row.was ∙
-      row_is c.loop-numbers.count c.loop-numbers.at c.args.pace c.loop-numbers.at c.loop-numbers.numbers c.args.book.now c.read_row.ensures)),
-)
+offset_bounds-numbers-count c = omega (arith, room (goal.at.offset_bounds-numbers-count c).In_ok-row)
 
 pub bounds-numbers-count : goal.bounds-numbers-count
-bounds-numbers-count c =
-    reached_room c.loop-numbers.invariant.1 (whole_tests _ _ _ (sym c.in_ok-row.was ∙
-    row_is c.loop-numbers.count c.loop-numbers.at c.args.pace c.loop-numbers.at c.loop-numbers.numbers c.args.book.now c.read_row.ensures))
+bounds-numbers-count c = room (goal.at.bounds-numbers-count c).In_ok-row
 
 pub offset_bounds-rows-count : goal.offset_bounds-rows-count
-offset_bounds-rows-count c = omega (
-  arith,
-  reached_room c.loop-numbers.invariant.1 (whole_tests _ _ _ (sym c.in_ok-row.was ∙
-      row_is c.loop-numbers.count c.loop-numbers.at c.args.pace c.loop-numbers.at c.loop-numbers.numbers c.args.book.now c.read_row.ensures)),
-)
+offset_bounds-rows-count c = omega (arith, room (goal.at.offset_bounds-rows-count c).In_ok-row)
 
 pub bounds-rows-count : goal.bounds-rows-count
-bounds-rows-count c =
-    reached_room c.loop-numbers.invariant.1 (whole_tests _ _ _ (sym c.in_ok-row.was ∙
-    row_is c.loop-numbers.count c.loop-numbers.at c.args.pace c.loop-numbers.at c.loop-numbers.numbers c.args.book.now c.read_row.ensures))
+bounds-rows-count c = room (goal.at.bounds-rows-count c).In_ok-row
+
+pub overflow_add-count : goal.overflow_add-count
+overflow_add-count c = omega (arith, room (goal.at.overflow_add-count c).In_ok-row)
+
+pub overflow_add-at : goal.overflow_add-at
+overflow_add-at c = omega (arith, four (goal.at.overflow_add-at c).In_ok-row)
+
+pub loop-numbers-smaller : goal.loop-numbers-smaller
+loop-numbers-smaller c = omega (arith, four (goal.at.loop-numbers-smaller c).In_ok-row)
 
 pub returns-in_err-row : goal.returns-in_err-row
 returns-in_err-row c =
@@ -98,34 +117,10 @@ returns-in_err-row c =
     (refused_tests _ _ _ (sym c.in_err-row.was ∙ row_is c.loop-numbers.count c.loop-numbers.at c.args.pace c.loop-numbers.at
     c.loop-numbers.numbers c.args.book.now c.read_row.ensures))
 
-pub overflow_add-count : goal.overflow_add-count
-overflow_add-count c = omega (
-  arith,
-  reached_room c.loop-numbers.invariant.1 (whole_tests _ _ _ (sym c.in_ok-row.was ∙
-      row_is c.loop-numbers.count c.loop-numbers.at c.args.pace c.loop-numbers.at c.loop-numbers.numbers c.args.book.now c.read_row.ensures)),
-)
-
-pub overflow_add-at : goal.overflow_add-at
-overflow_add-at c = omega (
-  arith,
-  long c.loop-numbers.at _ c.args.book.now (whole_tests _ _ _ (sym c.in_ok-row.was ∙
-      row_is c.loop-numbers.count c.loop-numbers.at c.args.pace c.loop-numbers.at c.loop-numbers.numbers c.args.book.now c.read_row.ensures)),
-)
-
-pub loop-numbers-smaller : goal.loop-numbers-smaller
-loop-numbers-smaller c = omega (
-  arith,
-  long c.loop-numbers.at _ c.args.book.now (whole_tests _ _ _ (sym c.in_ok-row.was ∙
-      row_is c.loop-numbers.count c.loop-numbers.at c.args.pace c.loop-numbers.at c.loop-numbers.numbers c.args.book.now c.read_row.ensures)),
-)
-
 pub loop-numbers-preserved : goal.loop-numbers-preserved
 loop-numbers-preserved c =
-    let l = c.loop-numbers in
-    let b = c.args.book.now in (
-      long c.loop-numbers.at _ c.args.book.now (whole_tests _ _ _ (sym c.in_ok-row.was ∙
-          row_is c.loop-numbers.count c.loop-numbers.at c.args.pace c.loop-numbers.at c.loop-numbers.numbers c.args.book.now c.read_row.ensures)),
-      rw (whole_row _ _ _ (sym c.in_ok-row.was ∙ row_is c.loop-numbers.count c.loop-numbers.at c.args.pace c.loop-numbers.at c.loop-numbers.numbers c.args.book.now c.read_row.ensures), ← drop-drop 4 l.at b)
-          (reached_on l.invariant.1 (stop c.loop-numbers.count c.loop-numbers.at c.args.book.now c.end_stands.ensures c.if-end_stands.false) (whole_tests _ _ _ (sym c.in_ok-row.was ∙
-          row_is c.loop-numbers.count c.loop-numbers.at c.args.pace c.loop-numbers.at c.loop-numbers.numbers c.args.book.now c.read_row.ensures))),
+    let whole = (goal.at.loop-numbers-preserved c).In_ok-row in (
+      four whole,
+      rw (whole_row _ _ _ (answer whole), ← drop-drop 4 c.loop-numbers.at c.args.book.now)
+          (reached_on c.loop-numbers.invariant.1 (no_end whole) (passed whole)),
     )
