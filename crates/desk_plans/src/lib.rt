@@ -12,24 +12,14 @@ use refusals::Tested;
 use running::Layout;
 use schedule::{Desk, Profile};
 
-// The row that stands at a place.
-fn row_at(rows: &[u32; Desk::PLACES], place: u32) -> u32
-    requires { place ≤ most_rows }
-    ensures { result ≡ at rows.now place }
-{
-    rows[place as usize]
-}
-
 // The first n words are places: their rows in their stead.
 fn put_rows(rows: &[u32; Desk::PLACES], n: usize, res: &mut [u32])
     requires { (n ≤ length res.old) × ((i : ℕ) → i < n → at res.old i ≤ most_rows) }
     ensures { res.new ≡
         map (at rows.now) (take n res.old) ++ drop n res.old }
 {
-    let mut i: usize = 0;
-    while i < n {
-        res[i] = row_at(rows, res[i]);
-        i += 1;
+    for place in &mut res[..n] {
+        *place = rows[*place as usize];
     }
 }
 

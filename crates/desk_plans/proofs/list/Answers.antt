@@ -1,6 +1,5 @@
 -- `list` meets its contract: no desk to plan, no row left, then the list of the columns.
 -- Assumes nothing.
-use Prim.Native.Nat.{◌≤◌}
 use native.Mathlib.Omega.{arith}
 use mathlib.Core.Path.{sym, ◌∙◌}
 use Rattle.desk_plans.proofs.PlanCalls.{list_away}

@@ -1,6 +1,5 @@
 -- `order_of_plan` meets its contract: no desk to plan, no row left, then the order of the columns with its rows put in.
 -- Assumes nothing.
-use Prim.Native.Nat.{◌≤◌}
 use native.Mathlib.Omega.{arith}
 use mathlib.Core.Path.{sym, ◌∙◌}
 use Rattle.outcomes.specs.Planning.{gives}

@@ -1,40 +1,36 @@
--- `put_rows` meets its contract: the first i words are written over.
+-- `put_rows` meets its contract: the first places are written over.
 -- Assumes nothing.
-use Prim.Native.Nat.{ℕ, ◌-◌, ◌≤◌, ◌<◌}
+use Prim.Native.Nat.{ℕ, ◌<◌}
 use native.Mathlib.Omega.{arith}
-use mathlib.Core.Path.{◌≡◌, refl, ap, ◌∙◌}
-use mathlib.Core.List.{List}
-use lib.ListN.{length, set, length-set}
+use mathlib.Core.Path.{refl, ap, ◌∙◌}
+use mathlib.Core.List.{List, ◌++◌}
+use lib.ListN.{take, drop, set}
+use Rattle.std.proofs.lemmas.List.{length-take}
 use Rattle.schedule.specs.Columns.{at}
-use Rattle.schedule.proofs.Filling.{at_end}
-use Rattle.desk_plans.proofs.RowsPut.{put_to, put_at, put_next}
+use Rattle.desk_plans.proofs.RowsPut.{put_at, put_place, put_next, put_all}
 use Rattle.desk_plans.proofs.put_rows.Goals as goal
 
-pub loop-i-init : goal.loop-i-init
-loop-i-init c = (omega arith, refl, refl)
+pub loop-place-init : goal.loop-place-init
+loop-place-init c = refl
 
-pub row_at-requires : goal.row_at-requires
-row_at-requires c =
+pub bounds-rows-place : goal.bounds-rows-place
+bounds-rows-place c =
     let a = c.args in
-    let l = c.loop-i in
-    let h : l.i < length a.res.now = omega (arith, c.requires.0) in
-    let e = ap (λ (b : List ℕ). at b l.i) l.invariant.1 ∙ put_at (at a.rows.now) a.res.now l.i h in
-    omega (arith, e, c.requires.1 l.i (omega arith))
+    let l = c.loop-place in
+    let h : l.place-index < a.n = omega (arith, length-take a.n a.res.now) in
+    omega (arith, put_place (at a.rows.now) a.n a.res.now l.place-index c.loop-place-test.true l.place-items l.invariant, c.requires.1 l.place-index h)
 
-pub loop-i-preserved : goal.loop-i-preserved
-loop-i-preserved c =
+pub loop-place-preserved : goal.loop-place-preserved
+loop-place-preserved c =
     let a = c.args in
-    let l = c.loop-i in
-    let h : l.i < length a.res.now = omega (arith, c.requires.0) in
-    let e = ap (λ (b : List ℕ). at b l.i) l.invariant.1 ∙ put_at (at a.rows.now) a.res.now l.i h in
-    let v = c.row_at.ensures ∙ ap (at a.rows.now) e in (
-      omega arith,
-      ap (λ (b : List ℕ). set b l.i c.row_at.result) l.invariant.1 ∙ put_next (at a.rows.now) a.res.now l.i h _ v,
-      simp length-set l.invariant.2,
-    )
+    let l = c.loop-place in
+    ap (λ (xs : List ℕ). set xs l.place-index (at a.rows.now (at l.place-items l.place-index))) l.invariant ∙
+    put_next (at a.rows.now) (take a.n a.res.now) l.place-index c.loop-place-test.true _
+    (ap (at a.rows.now) (ap (λ (xs : List ℕ). at xs l.place-index) l.invariant ∙
+    put_at (at a.rows.now) (take a.n a.res.now) l.place-index c.loop-place-test.true))
 
 pub returns : goal.returns
 returns c =
     let a = c.args in
-    let l = c.loop-i in
-    at_end (λ (k : ℕ). l.res ≡ put_to (at a.rows.now) a.res.now k) l.i a.n l.invariant.0 c.loop-i-test.false l.invariant.1
+    let l = c.loop-place in
+    ap (λ (xs : List ℕ). xs ++ drop a.n a.res.now) (l.invariant ∙ put_all (at a.rows.now) (take a.n a.res.now) l.place-index (omega arith))
