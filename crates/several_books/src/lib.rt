@@ -40,8 +40,7 @@ fn read_into(
         opening,
     };
     let given = readers::read(terms, book);
-    let outcome = given.outcome;
-    if let Tested::Refused(number, place) = outcome {
+    if let Tested::Refused(number, place) = given.outcome {
         return Tested::Refused(number, place);
     }
     let release = given.columns.release;
