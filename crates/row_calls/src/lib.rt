@@ -24,15 +24,10 @@ fn place_among(outcome: Tested, count: usize, row: u32) -> RowPlace
         return RowPlace::Refused(n, p);
     }
     let k = row as usize;
-    let unlisted = RowPlace::Refused(Tested::UNLISTED, count);
-    if k == 0 {
-        return unlisted;
+    if k == 0 || count < k {
+        return RowPlace::Refused(Tested::UNLISTED, count);
     }
-    if count < k {
-        return unlisted;
-    }
-    let place = 4 * (k - 1) + 2;
-    RowPlace::At(place)
+    RowPlace::At(4 * (k - 1) + 2)
 }
 
 // The place of a row's number word, rows counted from 1, or the refusal. It works out no ends, and is told no opening.
@@ -40,12 +35,11 @@ pub fn row_place(profile: Profile, book: &[u32], row: u32) -> RowPlace
     ensures { result ≡ place_call profile book.now row }
 {
     let terms = Terms {
-        profile: profile,
+        profile,
         opening: 0,
     };
     let given = readers::read(terms, book);
-    let outcome = given.outcome;
-    place_among(outcome, given.count, row)
+    place_among(given.outcome, given.count, row)
 }
 
 // The four words of a row that was looked for, where it was found.
@@ -54,10 +48,7 @@ fn words_at<'a>(book: &'a [u32], found: RowPlace) -> &'a [u32]
     ensures { result.now ≡ row_words_at found book.now }
 {
     match found {
-        RowPlace::At(start) => {
-            let end = start + 4;
-            &book[start..end]
-        }
+        RowPlace::At(start) => &book[start..start + 4],
         RowPlace::Refused(_, _) => &book[0..0],
     }
 }
