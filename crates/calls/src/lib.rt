@@ -8,7 +8,7 @@ ghost use Rattle.calls.specs.Calls.{list_call, bound_call, plan_call, verdict_ca
 
 use outcomes::{ListAnswer, OrderAnswer, VerdictAnswer};
 use readers::Terms;
-use refusals::Tested;
+use refusals::Refusal;
 
 // The list: for each plan two words, end and worst lateness in two's complement, by rising end.
 pub fn list(terms: Terms, book: &[u32], res: &mut [u32]) -> ListAnswer
@@ -17,8 +17,8 @@ pub fn list(terms: Terms, book: &[u32], res: &mut [u32]) -> ListAnswer
     let profile = terms.profile;
     let given = readers::read(terms, book);
     let outcome = given.outcome;
-    if let Tested::Refused(number, place) = outcome {
-        return ListAnswer::Refused(number, place);
+    if let Err(Refusal { number, place }) = outcome {
+        return Err(Refusal { number, place });
     }
     outcomes::list_in(
         profile,
@@ -38,8 +38,8 @@ pub fn order_for_bound(terms: Terms, book: &[u32], bound: i32, res: &mut [u32]) 
     let profile = terms.profile;
     let given = readers::read(terms, book);
     let outcome = given.outcome;
-    if let Tested::Refused(number, place) = outcome {
-        return OrderAnswer::Refused(number, place);
+    if let Err(Refusal { number, place }) = outcome {
+        return Err(Refusal { number, place });
     }
     outcomes::order_in(
         profile,
@@ -60,8 +60,8 @@ pub fn order_of_plan(terms: Terms, book: &[u32], plan: u32, res: &mut [u32]) -> 
     let profile = terms.profile;
     let given = readers::read(terms, book);
     let outcome = given.outcome;
-    if let Tested::Refused(number, place) = outcome {
-        return OrderAnswer::Refused(number, place);
+    if let Err(Refusal { number, place }) = outcome {
+        return Err(Refusal { number, place });
     }
     outcomes::plan_in(
         profile,
@@ -82,8 +82,8 @@ pub fn verdict(terms: Terms, book: &[u32], posting: &[u32]) -> VerdictAnswer
     let profile = terms.profile;
     let given = readers::read(terms, book);
     let outcome = given.outcome;
-    if let Tested::Refused(number, place) = outcome {
-        return VerdictAnswer::Refused(number, place);
+    if let Err(Refusal { number, place }) = outcome {
+        return Err(Refusal { number, place });
     }
     outcomes::verdict_in(
         profile,
