@@ -12,7 +12,6 @@ use Rattle.readers.specs.declared.Terms.{Terms}
 use Rattle.readers.specs.Reads.{read_by}
 use Rattle.outcomes.specs.Outcomes.{list_outcome, order_outcome, plan_outcome, verdict_outcome}
 use Rattle.outcomes.specs.Planning.{gives}
-use Rattle.outcomes.specs.declared.Verdict.TheVariants as verdict
 use Rattle.calls.specs.Planned.{planned}
 use Rattle.calls.specs.Calls.{list_call, bound_call, plan_call, verdict_call}
 

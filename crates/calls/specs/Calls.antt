@@ -8,7 +8,6 @@ use Rattle.readers.specs.Reads.{read_by}
 use Rattle.outcomes.specs.Outcomes.{list_outcome, order_outcome, plan_outcome, verdict_outcome, open_outcomes, ListAnswer, OrderAnswer}
 use Rattle.outcomes.specs.Planning.{Outcome, gives}
 use Rattle.outcomes.specs.Outcomes.{VerdictAnswer}
-use Rattle.outcomes.specs.declared.Verdict.TheVariants as verdict
 use Rattle.calls.specs.Planned.{planned}
 
 -- The offered calls, by what they are told: the refusal of the opening or the book, or what the day that it gives comes to.

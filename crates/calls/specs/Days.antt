@@ -1,6 +1,6 @@
 -- Days worked through: how a table of questions and expected answers is written, and what it is for such a table to hold of the
 -- definitions. The tables are in planner/specs/Days and first_come/specs/Days. Rests on: Calls, Lines, the readers, the grammar's books.
-use Rattle.std.specs.Prelude.{ℕ, ◌≡◌, length, ℤ, Some}
+use Rattle.std.specs.Prelude.{ℕ, ◌≡◌, ℤ, Some}
 use Rattle.std.proofs.Common.{sym, ap, ◌∙◌, Ok, Err}
 use Rattle.refusals.specs.Tests.{refusal_at}
 use mathlib.Core.List.{List, [], ◌∷◌, map, Memᴰ, head-eq_of_cons-eq, tail-eq_of_cons-eq}

@@ -15,14 +15,14 @@ pub fn list(terms: Terms, book: &[u32], res: &mut [u32]) -> Result<usize, Refusa
     ensures { gives result res.new ≡ list_call terms book.now res.old }
 {
     let profile = terms.profile;
-    let given = readers::read(terms, book)?;
+    let day = readers::read(terms, book)?;
     outcomes::list_in(
         profile,
-        &given.columns.release,
-        &given.columns.length,
-        &given.columns.due,
-        given.count,
-        given.free,
+        &day.columns.release,
+        &day.columns.length,
+        &day.columns.due,
+        day.count,
+        day.free,
         res,
     )
 }

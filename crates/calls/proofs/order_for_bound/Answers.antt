@@ -2,7 +2,6 @@
 -- Assumes nothing.
 use mathlib.Core.Path.{sym, ap, ◌∙◌}
 use lib.IntN.{ℤ}
-use Rattle.refusals.specs.declared.Refusal.{Refusal}
 use Rattle.refusals.proofs.Tests.{handed_on}
 use Rattle.readers.specs.Reads.{read_by}
 use Rattle.readers.proofs.Readings.{given_refused}

@@ -1,7 +1,6 @@
 -- `order_of_plan` meets its contract: the refusal of the book, then the order of the plan.
 -- Assumes nothing.
 use mathlib.Core.Path.{sym, ap, ◌∙◌}
-use Rattle.refusals.specs.declared.Refusal.{Refusal}
 use Rattle.refusals.proofs.Tests.{handed_on}
 use Rattle.readers.specs.Reads.{read_by}
 use Rattle.readers.proofs.Readings.{given_refused}

@@ -1,7 +1,6 @@
 -- `verdict` meets its contract: the refusal of the book, then the verdict on its rows.
 -- Assumes nothing.
-use mathlib.Core.Path.{sym, ap, ◌∙◌}
-use Rattle.refusals.specs.declared.Refusal.{Refusal}
+use mathlib.Core.Path.{sym, ◌∙◌}
 use Rattle.refusals.proofs.Tests.{handed_on}
 use Rattle.readers.specs.Reads.{read_by}
 use Rattle.readers.proofs.Readings.{given_refused}
