@@ -5,34 +5,31 @@ use mathlib.Core.Bool.{Bool, true, false, cond}
 use mathlib.Core.Path.{◌≡◌, refl, sym, ap, ◌∙◌, subst}
 use mathlib.Core.List.{List, [], ◌∷◌, Memᴰ}
 use mathlib.Core.Option.{Option, none, some}
-use lib.Dec.{T}
 use lib.ListN.{length, replicate, length-replicate}
-use Rattle.schedule.specs.Rows.{Day, count_from, jobs}
-use Rattle.schedule.specs.Desk.{Pair, OrderOf, idle_of}
+use Rattle.std.specs.Prelude.{Ok, Err}
+use Rattle.schedule.specs.Rows.{Day, jobs}
+use Rattle.schedule.specs.Desk.{Pair, idle_of}
 use Rattle.schedule.specs.Plans.{beats, Beats, first_beating}
 use Rattle.schedule.proofs.Beats.{beats_says}
 use Rattle.schedule.proofs.Numbers.{length_count}
 use Rattle.schedule.proofs.Tests.{is_true}
-use Rattle.refusals.specs.declared.Tested.{Tested}
-use Rattle.refusals.specs.declared.Tested.TheVariants as tested
+use Rattle.refusals.specs.declared.Refusal.{Refusal}
+use Rattle.refusals.specs.Tests.{Tested}
 use Rattle.book.specs.Rows.{Contents, refused as bookRefused, accepted}
 use Rattle.readers.specs.Reads.{read_by}
 use Rattle.readers.proofs.Accepted.{accepted_day}
 use Rattle.postings.specs.Posting.{posting_tests}
-use Rattle.outcomes.specs.declared.VerdictAnswer.{VerdictAnswer}
-use Rattle.outcomes.specs.Outcomes.{judged_of, verdict_outcome}
+use Rattle.outcomes.specs.Outcomes.{VerdictAnswer, judged_of, verdict_outcome}
 use Rattle.outcomes.specs.Planning.{Planning}
 use Rattle.outcomes.proofs.OutcomeLaws.{verdict_no, verdict_is}
-use Rattle.outcomes.proofs.Sound.{Sound, posted}
+use Rattle.outcomes.proofs.Sound.{posted}
 use Rattle.calls.specs.Answers.{said_verdict}
 use Rattle.calls.specs.Planned.{planned}
 use Rattle.calls.proofs.CallLaws.{verdict_of}
-use Rattle.promises.specs.Vocabulary.{ReaderOrder, late_by, pair_by, NoneBeats, Takes}
+use Rattle.promises.specs.Vocabulary.{ReaderOrder, pair_by, NoneBeats, Takes}
 use Rattle.promises.proofs.Accepted.{not_both, takes}
 use Rattle.promises.proofs.Promise.{day_sound, cover_holds}
-use Rattle.day_result.specs.declared.DayResult.{DayResult}
-use Rattle.day_result.specs.declared.DayResult.TheVariants.{Refused, Unbeaten, Beaten}
-use Rattle.day_result.specs.DayResults.{month_terms, result_of, day_result}
+use Rattle.day_result.specs.DayResults.{month_terms, result_of}
 use Rattle.day_result.proofs.Days.{day_refused, day_of_lem}
 use Rattle.month_input.specs.Layout.{PostedDay}
 use Rattle.month_step.specs.Turns.{result_for}
@@ -52,7 +49,7 @@ named i (p ∷ ps) q k e = step (beats p q) refl e (named (suc i) ps q k)
 same_accepted : {c d : Day} → accepted c ≡ accepted d → c ≡ d
 same_accepted e = cc
 
-passed_not : {n p : ℕ} → tested.Passed ≡ tested.Refused n p → ⊥
+passed_not : {refusal : Refusal} → ◌≡◌ {A = Tested} (Ok tt) (Err refusal) → ⊥
 passed_not e = let z : ◌≡◌ {A = ℕ} 0 1 = cc in omega arith
 
 module _ (d : PostedDay) where
@@ -82,10 +79,10 @@ module _ (d : PostedDay) where
     result = day_of_lem d.book d.posting day reads
 
     -- The posting is refused: whatever day the book gives, it is this one.
-    by_posting : (n p : ℕ) → posting_tests (length g.left) d.posting ≡ tested.Refused n p → CountsAs d (result_for d)
+    by_posting : (refusal : Refusal) → posting_tests (length g.left) d.posting ≡ Err refusal → CountsAs d (result_for d)
     unfolding result_of
-    by_posting n p e =
-        subst (CountsAs d) (sym (result ∙ ap (result_of idle) (verdict_no g d.posting n p e))) (refused none_there)
+    by_posting refusal e =
+        subst (CountsAs d) (sym (result ∙ ap (result_of idle) (verdict_no g d.posting refusal e))) (refused none_there)
       where
         none_there : ¬ AcceptedPosting d
         none_there a =
@@ -94,15 +91,15 @@ module _ (d : PostedDay) where
             passed_not (sym ((posted rows d.posting).1 o) ∙
             (ap (λ (m : ℕ). posting_tests m d.posting) (sym (length_count 1 rows)) ∙ e))
 
-    module _ (passes : posting_tests (length g.left) d.posting ≡ tested.Passed) where
+    module _ (passes : posting_tests (length g.left) d.posting ≡ Ok tt) where
       order : ReaderOrder g d.posting
       order = (posted rows d.posting).0 (ap (λ (m : ℕ). posting_tests m d.posting) (sym (length_count 1 rows)) ∙ passes)
 
       abbrev whole : AcceptedPosting d
       whole = record { day = day; takes = takes_day; order = order }
 
-      judged : (k : Option ℕ) → first_beating 1 g.plans own ≡ k → verdict_outcome g d.posting ≡ judged_of own k
-      judged k e = verdict_is g d.posting passes ∙ ap (judged_of own) e
+      judged : (k : Option ℕ) → first_beating 1 g.plans own ≡ k → verdict_outcome g d.posting ≡ Ok (judged_of own k)
+      judged k e = verdict_is g d.posting passes ∙ ap (λ (o : Option ℕ). Ok (judged_of own o)) e
 
       -- No plan beats it: no order does.
       none_beats : first_beating 1 g.plans own ≡ none → NoneBeats g own
@@ -129,8 +126,8 @@ each_day d = book (read_by month_terms d.book) refl
   where
     posting : (day : Day) → read_by month_terms d.book ≡ accepted day → (t : Tested) →
         posting_tests (length (planned month_terms day).left) d.posting ≡ t → CountsAs d (result_for d)
-    posting day e (tested.Refused n p) f = by_posting d day e n p f
-    posting day e tested.Passed f = by_plans d day e f (first_beating 1 (planned month_terms day).plans (own d day e)) refl
+    posting day e (Err refusal) f = by_posting d day e refusal f
+    posting day e (Ok _) f = by_plans d day e f (first_beating 1 (planned month_terms day).plans (own d day e)) refl
 
     book : (c : Contents) → read_by month_terms d.book ≡ c → CountsAs d (result_for d)
     book (bookRefused n p) e = by_book d n p e

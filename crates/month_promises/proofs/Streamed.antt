@@ -16,7 +16,7 @@ use Rattle.totals.proofs.Report.{day_more}
 use Rattle.report_lines.specs.ReportBytes.{report_bytes, refused_bytes}
 use Rattle.month_step.specs.Turns.{result_for, Next, day, ended, astray, next_of, next_day}
 use Rattle.month_step.proofs.Steps.{no_bytes, too_many, next_cut}
-use Rattle.month_promises.specs.Shown.{lines_of, shown}
+use Rattle.month_promises.specs.Shown.{lines_of}
 use Rattle.month_promises.specs.Streamed.{turns, Streamed}
 
 -- One turn, by what comes next.

@@ -1,7 +1,6 @@
 -- Months worked through: the table, and the theorem that the report and its lines are as the table says.
 -- Rests on: Shown, the grammar's books.
 use Rattle.std.specs.Prelude.{ℕ, ◌≡◌, refl, List, [], ◌∷◌, map, ℤ, pos, negsuc}
-use Rattle.std.proofs.Math.Option.{Option, none, some}
 use Rattle.schedule.specs.Rows.{open_rows}
 use Rattle.schedule.specs.Desk.{open_desk}
 use Rattle.schedule.specs.Picks.{open_picks}
