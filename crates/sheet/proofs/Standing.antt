@@ -23,7 +23,7 @@ use Rattle.book.specs.Tables.{table_rows}
 use Rattle.readers.specs.Reads.{read_by}
 use Rattle.readers.proofs.Accepted.{accepted_day}
 use Rattle.results.specs.Results.{written, signed, plans_in}
-use Rattle.outcomes.specs.declared.OrderAnswer.{OrderAnswer}
+use Rattle.outcomes.specs.Outcomes.{OrderAnswer}
 use Rattle.outcomes.specs.Planning.{Outcome, nth, planning_of}
 use Rattle.outcomes.proofs.OutcomeLaws.{order_some}
 use Rattle.calls.specs.Calls.{bound_call}

@@ -1,10 +1,9 @@
 -- What the crate's parts hold.
 -- Rests on: Printing.
-use Rattle.std.specs.Prelude.{ℕ, suc, ◌+◌, ◌*◌, ◌≤◌, ◌<◌, ◌≡◌, List, [], map, length, get_or, replicate}
+use Rattle.std.specs.Prelude.{ℕ, suc, ◌+◌, ◌*◌, ◌≤◌, ◌<◌, ◌≡◌, List, [], map, length, get_or, replicate, Ok}
 use Rattle.std.proofs.Math.Option.{some}
 use Rattle.schedule.specs.Limits.{most_rows, row_places}
 use Rattle.results.specs.Results.{signed}
-use Rattle.outcomes.specs.declared.ListAnswer.TheVariants.{Plans}
 use Rattle.outcomes.specs.Planning.{gives, nth}
 use Rattle.calls.specs.Calls.{list_call, bound_call}
 use Rattle.calls.specs.Lines.{Line, Printed, refusal, listing, printed}
@@ -16,7 +15,7 @@ sheet_bytes = 750000
 
 -- The call for the list answered so many plans, and wrote them into a buffer of 512 words.
 abbrev pub Answered : (book : List ℕ) (count : ℕ) (plans : List ℕ) → Type 0
-Answered book count plans = (b : List ℕ) × (length b ≡ 512) × (gives (Plans count) plans ≡ list_call slate_terms book b)
+Answered book count plans = (b : List ℕ) × (length b ≡ 512) × (gives (Ok count) plans ≡ list_call slate_terms book b)
 
 -- The lines of a book's plans.
 abbrev pub listed_lines : Printed → List Line

@@ -18,8 +18,7 @@ ghost use Rattle.sheet.specs.Parts.{sheet_bytes, Answered, Listed, order_numbers
 
 use book::Table;
 use input::WORDS;
-use outcomes::ListAnswer;
-use refusals::Tested;
+use refusals::Refusal;
 use schedule::Desk;
 
 // The bytes of a sheet: room for the line that counts and for those of 256 plans, 2,900 bytes each at most.
@@ -70,7 +69,7 @@ fn order_numbers(book: &[u32], late: u32, numbers: &[u32; Desk::PLACES], order: 
     ensures order_after { order.new ≡ map (λ i. get_or numbers.now i 0)
         (bound_call slate_terms book.now (signed late) order.old).buffer }
 {
-    planner::order_for_bound(0, book, signed_of(late), order);
+    let _ = planner::order_for_bound(0, book, signed_of(late), order);
     name_rows(numbers, order);
 }
 
@@ -135,7 +134,7 @@ fn put_listing(book: &[u32], count: usize, plans: &[u32; 512], sheet: &mut [u8])
     requires { (Answered book.now count plans.now) × (sheet_bytes ≤ length sheet.old) }
     ensures { Counted result sheet.new (bytes_of (printed slate_terms book.now)) }
 {
-    let table = book::read_words(book).table;
+    let table = book::read_words(book).unwrap();
     let rows = table.count;
     let numbers = numbers_of(table);
     let at = lines::rows_line(sheet, 0, rows, count);
@@ -148,12 +147,12 @@ fn put_lines(input: &[u8], book: &[u32], sheet: &mut [u8]) -> usize
     ensures { Counted result sheet.new (shown input.now) }
 {
     if input::is_odd(input) {
-        return lines::refused_line(sheet, 0, Tested::CUT, input.len() / 4);
+        return lines::refused_line(sheet, 0, Refusal::CUT, input.len() / 4);
     }
     let mut plans = no_plans();
     match planner::list(0, book, &mut plans) {
-        ListAnswer::Refused(number, place) => lines::refused_line(sheet, 0, number, place),
-        ListAnswer::Plans(count) => put_listing(book, count, &plans, sheet),
+        Err(refusal) => lines::refused_line(sheet, 0, refusal.number, refusal.place),
+        Ok(count) => put_listing(book, count, &plans, sheet),
     }
 }
 

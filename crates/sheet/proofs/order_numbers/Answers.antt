@@ -5,7 +5,7 @@ use mathlib.Core.Path.{ap, ◌∙◌}
 use mathlib.Core.List.{map}
 use lib.IntN.{ℤ}
 use lib.ListN.{get_or}
-use Rattle.outcomes.specs.declared.OrderAnswer.{OrderAnswer}
+use Rattle.outcomes.specs.Outcomes.{OrderAnswer}
 use Rattle.outcomes.specs.Planning.{Outcome}
 use Rattle.calls.specs.Calls.{bound_call}
 use Rattle.sheet.specs.Printing.{slate_terms}
