@@ -31,6 +31,7 @@ use Rattle.choice.specs.declared.Taken.{Taken}
 use Rattle.choice.specs.Lists.{ends_at, lates_at, list_at, lists_in, ListedAt, Listed, Behind, taken_at, taken_of, taken_by, best_of}
 use Rattle.choice.proofs.Places.{place_smaller}
 
+-- What is there is one thing.
 pub same_taken : {a b : Taken} → Some a ≡ Some b → a ≡ b
 same_taken e = cc
 
@@ -113,8 +114,8 @@ module _ (plans : List ℕ) (fronts : List (List ℕ)) (closings : List ℕ) (li
     in_range m = all_raised plans fronts (length closings) 0 (λ e l k. listed e (omega arith)) m
 
     -- What is answered where the first plans within the bound do not keep the limit.
-    pub ended : (best : CodeOption Taken) (bound : ℕ) → Standing best bound → keeps_limit limit closings (first_plans (lowered bound) lists) ≡ false →
-        best ≡ best_of limit closings lists
+    pub ended : (best : CodeOption Taken) (bound : ℕ) → Standing best bound →
+        keeps_limit limit closings (first_plans (lowered bound) lists) ≡ false → best ≡ best_of limit closings lists
     unfolding taken_by
     ended None bound s n =
         sym (ap (taken_by closings) (never_keeps limit closings lists some_list rise (lowered bound) (λ z m.

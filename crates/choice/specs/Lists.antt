@@ -1,6 +1,7 @@
 -- The lists of several desks as the code holds them, and what is taken of them. Only contracts cite it.
 -- Rests on: the lists of plans (listing), what is chosen (overtime).
-use Rattle.std.specs.Prelude.{ℕ, suc, ◌+◌, ◌*◌, ◌≤◌, ◌<◌, cond, ◌≡◌, List, [], ◌∷◌, map, leb, length, get_or, take, Option as CodeOption, None, Some}
+use Rattle.std.specs.Prelude.{ℕ, suc, ◌+◌, ◌*◌, ◌≤◌, ◌<◌, cond, ◌≡◌, List, [], ◌∷◌, map, leb, length, get_or, take}
+use Rattle.std.specs.Prelude.{Option as CodeOption, None, Some}
 use Rattle.std.proofs.Math.Option.{Option, none, some}
 use Rattle.schedule.specs.Limits.{most_rows, most_desks}
 use Rattle.schedule.specs.Rows.{count_from}
@@ -49,10 +50,11 @@ pub record Behind (plans : List ℕ) (fronts : List (List ℕ)) (m bound : ℕ) 
   pub places : length cursors ≡ most_desks
   pub behind : (e : ℕ) → e < m → at cursors e ≤ place_at plans fronts bound e
 
--- What some plans come to as the code tells it; and what the plans that are chosen do.
+-- The plans with this greatest lateness, raised, and these overtimes added up.
 abbrev pub taken_at : (late overtime : ℕ) → Taken
 taken_at y o = record { late = y; overtime = o }
 
+-- What some plans come to as the code tells it; and what the plans that are chosen do.
 unfoldable pub taken_of : (closings : List ℕ) → Option (List Pair) → CodeOption Taken
 taken_of closings none = None
 taken_of closings (some ps) = Some (taken_at (raised (greatest_late ps)) (overtimes closings ps))

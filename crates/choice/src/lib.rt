@@ -58,7 +58,7 @@ fn over(end: u32, closing: u32) -> u32
     end.saturating_sub(closing)
 }
 
-// Each desk's first listed plan within the bound; or some desk has none. The cursor of each desk goes forward to it, and is never past it.
+// Each desk's first listed plan within the bound, or none where one has none. The cursor of each desk goes forward to it, never past it.
 fn first_plans(
     plans: &[usize; Desks::MOST],
     fronts: &[[u32; Desk::ROWS]; Desks::FRONTS],
