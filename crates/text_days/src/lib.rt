@@ -10,7 +10,8 @@
 // reader to judge: here a number has only to fit the 29 bits of a word's value.
 #![tactic(auto)]
 
-ghost use Rattle.std.specs.Prelude.{◌≡◌, ◌+◌, ◌*◌, ◌%◌, ◌≤◌, ◌<◌, cond, length, IfSome, OnErr};
+ghost use Rattle.std.specs.Prelude.{◌≡◌, ◌+◌, ◌*◌, ◌%◌, ◌≤◌, ◌<◌, cond, length, IfSome, OnOk, OnErr, slice_index};
+ghost use Rattle.text_days.specs.declared.Stage.TheVariants.{Free, Row};
 
 use std::fmt;
 use text_words::Words;
@@ -163,7 +164,7 @@ impl Day {
 
     // A day of which nothing is read, that begins at a place.
     pub fn new(place: Place) -> Day
-        ensures { (result.place ≡ place) × (result.rows ≡ 0) }
+        ensures { (result.place ≡ place) × (result.stage ≡ Free) × (result.rows ≡ 0) }
     {
         Day {
             place,
@@ -251,7 +252,10 @@ impl Day {
     }
 
     // Puts the end word to the book of a day that ends here.
-    pub fn finish(&self, book: &mut Book) -> Result<(), Wrong> {
+    pub fn finish(&self, book: &mut Book) -> Result<(), Wrong>
+        ensures rows { OnOk result ((self.now.stage ≡ Row) × (0 < self.now.rows)) }
+        ensures end { OnOk result (slice_index book.new (4 * self.now.rows + 2) ≡ 7 * 536870912 + self.now.rows) }
+    {
         match self.stage {
             Stage::Free => return Err(Wrong::NoFree),
             Stage::Pace => return Err(Wrong::NoPace),
