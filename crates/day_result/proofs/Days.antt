@@ -4,14 +4,15 @@ use Prim.Native.Nat.{ℕ, ◌+◌, ◌-◌}
 use mathlib.Core.Path.{◌≡◌, refl, sym, ap, ◌∙◌, subst}
 use mathlib.Core.List.{List, [], ◌∷◌, Memᴰ}
 use lib.ListN.{length}
+use Rattle.std.specs.Prelude.{Result, Ok, Err}
 use Rattle.theory.specs.Jobs.{Job, finish}
 use Rattle.schedule.specs.declared.Profile.TheVariants.{Ordering}
 use Rattle.schedule.specs.Rows.{count_from, Day, jobs}
 use Rattle.schedule.specs.Desk.{idle_of}
 use Rattle.schedule.proofs.Numbers.{length_count}
 use Rattle.schedule.proofs.Orders.{perm_all}
-use Rattle.refusals.specs.declared.Tested.{Tested}
-use Rattle.refusals.specs.declared.Tested.TheVariants as tested
+use Rattle.refusals.specs.declared.Refusal.{Refusal}
+use Rattle.refusals.specs.Tests.{Tested}
 use Rattle.book.specs.Rows.{refused, accepted}
 use Rattle.rows.specs.InColumns.{jobs_of}
 use Rattle.readers.specs.declared.Given.{Given}
@@ -55,10 +56,10 @@ module _ {job job' : ℕ → Job} {t n : ℕ} (p : Plannable Ordering job t n)
   abbrev g' : Planning
   g' = planning_in Ordering job' t n
 
-  refused_same : (i j : ℕ) → (m q : ℕ) → posting_tests (length g.left) posting ≡ tested.Refused m q →
+  refused_same : (i j : ℕ) → (refusal : Refusal) → posting_tests (length g.left) posting ≡ Err refusal →
       result_of i (verdict_outcome g posting) ≡ result_of j (verdict_outcome g posting)
   unfolding result_of
-  refused_same i j m q e = rw (verdict_no g posting m q e) refl
+  refused_same i j refusal e = rw (verdict_no g posting refusal e) refl
 
   pub same_result : result_of (idle_of job t posting) (verdict_outcome g posting) ≡
       result_of (idle_of job' t posting) (verdict_outcome g' posting)
@@ -67,9 +68,9 @@ module _ {job job' : ℕ → Job} {t n : ℕ} (p : Plannable Ordering job t n)
     where
       step : (r : Tested) → posting_tests (length g.left) posting ≡ r →
           result_of (idle_of job t posting) (verdict_outcome g posting) ≡ result_of (idle_of job' t posting) (verdict_outcome g posting)
-      step (tested.Refused m q) e = refused_same (idle_of job t posting) (idle_of job' t posting) m q e
-      step tested.Passed e =
-          let o = posting_order p posting (subst (λ (m : ℕ). posting_tests m posting ≡ tested.Passed) (length_count 1 n) e) in
+      step (Err refusal) e = refused_same (idle_of job t posting) (idle_of job' t posting) refusal e
+      step (Ok _) e =
+          let o = posting_order p posting (subst (λ (m : ℕ). posting_tests m posting ≡ Ok tt) (length_count 1 n) e) in
           ap (λ (i : ℕ). result_of i (verdict_outcome g posting)) (idle_same job job' t posting (perm_all (λ i. job i ≡ job' i) o alike))
 
 -- Of a book that is accepted: its rows can be planned, and the result of the columns is that of the day.
@@ -79,9 +80,9 @@ pub record Ready (book : List ℕ) (r : Given) : Type 0 where
       result_of (idle_of (jobs_of r.columns) r.free posting)
       (verdict_outcome (planning_in Ordering (jobs_of r.columns) r.free r.count) posting) ≡ day_result book posting
 
-pub ready : (book : List ℕ) (r : Given) → Gives 0 (read_by month_terms book) r → r.outcome ≡ tested.Passed → Ready book r
-ready book r gives o =
-    let d = given_passed (read_by month_terms book) r gives o in
+pub ready : (book : List ℕ) (x : Result Given Refusal) (r : Given) → Gives 0 (read_by month_terms book) x → x ≡ Ok r → Ready book r
+ready book x r gives o =
+    let d = given_passed 0 (read_by month_terms book) x r gives o in
     let can = plannable month_terms book r d.day d.contents d.free d.count d.columns in
     let alike = same month_terms book r d.day d.contents d.free d.count d.columns in
     record {

@@ -7,6 +7,7 @@ use mathlib.Core.List.{List, [], ◌∷◌, Permᴰ}
 use mathlib.Core.Option.{Option, none, some}
 use lib.ListN.{length, get_or, take, drop}
 use lib.Seq.{drop-cons}
+use Rattle.std.specs.Prelude.{Ok, Err}
 use Rattle.std.specs.List.{sum}
 use Rattle.std.proofs.lemmas.List.Sums.{sum_by-cons}
 use Rattle.schedule.specs.Limits.{longest_time}
@@ -18,16 +19,14 @@ use Rattle.schedule.specs.Plans.{first_beating}
 use Rattle.schedule.specs.Columns.{columns}
 use Rattle.schedule.proofs.DeskLaws.{idle_sum}
 use Rattle.schedule.proofs.Numbers.{length_count}
-use Rattle.refusals.specs.declared.Tested.{Tested}
-use Rattle.refusals.specs.declared.Tested.TheVariants as tested
+use Rattle.refusals.specs.Tests.{Tested}
 use Rattle.postings.specs.Posting.{posting_tests}
-use Rattle.outcomes.specs.declared.VerdictAnswer.{VerdictAnswer}
-use Rattle.outcomes.specs.declared.VerdictAnswer.TheVariants as verdict-answer
-use Rattle.outcomes.specs.Outcomes.{judged_of, verdict_outcome}
+use Rattle.outcomes.specs.Outcomes.{VerdictAnswer, judged_of, verdict_outcome}
 use Rattle.outcomes.specs.Planning.{Planning, planning_in}
 use Rattle.outcomes.specs.Plannable.{Plannable}
 use Rattle.outcomes.proofs.OutcomeLaws.{verdict_no, verdict_is}
 use Rattle.outcomes.proofs.Columns.{posting_order}
+use Rattle.outcomes.specs.declared.Verdict.TheVariants as verdict
 use Rattle.day_result.specs.declared.DayResult.TheVariants.{Unbeaten, Beaten}
 use Rattle.day_result.specs.DayResults.{result_of}
 use Rattle.day_result.specs.Lasting.{lasting}
@@ -65,9 +64,9 @@ lengths_within minutes (suc n) i h = omega (arith, h i, lengths_within minutes n
 
 -- A verdict whose end, if it tells one, is the minute t, so many idle minutes and so many of all lengths.
 abbrev pub Ends : (t idle lengths : ℕ) → VerdictAnswer → Type 0
-Ends t idle lengths (verdict-answer.Refused m q) = Unit {0}
-Ends t idle lengths (verdict-answer.Unbeaten e y) = t + (idle + lengths) ≡ e
-Ends t idle lengths (verdict-answer.Beaten e y k) = t + (idle + lengths) ≡ e
+Ends t idle lengths (Err refusal) = Unit {0}
+Ends t idle lengths (Ok (verdict.Unbeaten e y)) = t + (idle + lengths) ≡ e
+Ends t idle lengths (Ok (verdict.Beaten e y k)) = t + (idle + lengths) ≡ e
 
 -- So it is of a posting of rows 1 to n from the minute t on, with its own idle minutes.
 module _ {job : ℕ → Job} {t n : ℕ} (p : Plannable Ordering job t n) (posting : List ℕ) where
@@ -77,7 +76,7 @@ module _ {job : ℕ → Job} {t n : ℕ} (p : Plannable Ordering job t n) (posti
   abbrev Ended : VerdictAnswer → Type 0
   Ended v = Ends t (idle_of job t posting) (lengths_of job (count_from 1 n)) v
 
-  judged : (q : Pair) (k : Option ℕ) → t + (idle_of job t posting + lengths_of job (count_from 1 n)) ≡ q.end → Ended (judged_of q k)
+  judged : (q : Pair) (k : Option ℕ) → t + (idle_of job t posting + lengths_of job (count_from 1 n)) ≡ q.end → Ended (Ok (judged_of q k))
   unfolding judged_of
   judged q none s = s
   judged q (some k) s = s
@@ -86,9 +85,9 @@ module _ {job : ℕ → Job} {t n : ℕ} (p : Plannable Ordering job t n) (posti
   ended = step (posting_tests (length planning.left) posting) refl
     where
       step : (r : Tested) → posting_tests (length planning.left) posting ≡ r → Ended (verdict_outcome planning posting)
-      step (tested.Refused m q) e = subst Ended (sym (verdict_no planning posting m q e)) tt
-      step tested.Passed e =
-          let o = posting_order p posting (subst (λ (m : ℕ). posting_tests m posting ≡ tested.Passed) (length_count 1 n) e) in
+      step (Err refusal) e = subst Ended (sym (verdict_no planning posting refusal e)) tt
+      step (Ok _) e =
+          let o = posting_order p posting (subst (λ (m : ℕ). posting_tests m posting ≡ Ok tt) (length_count 1 n) e) in
           let pair = pair_of job t posting in
           subst Ended (sym (verdict_is planning posting e))
           (judged pair (first_beating 1 planning.plans pair)
@@ -114,6 +113,6 @@ module _ (release minutes due : List ℕ) {t n : ℕ} (p : Plannable Ordering (c
   idle_found r s = step w s own_idle ∙ ap (result_of idle) (sym known ∙ told)
     where
       step : (w : VerdictAnswer) → Ends t r times w → Ends t idle times w → result_of r w ≡ result_of idle w
-      step (verdict-answer.Refused m q) a b = refl
-      step (verdict-answer.Unbeaten e y) a b = ap (λ (i : ℕ). Unbeaten i y) (omega arith)
-      step (verdict-answer.Beaten e y k) a b = ap (λ (i : ℕ). Beaten i y) (omega arith)
+      step (Err refusal) a b = refl
+      step (Ok (verdict.Unbeaten e y)) a b = ap (λ (i : ℕ). Unbeaten i y) (omega arith)
+      step (Ok (verdict.Beaten e y k)) a b = ap (λ (i : ℕ). Beaten i y) (omega arith)

@@ -14,9 +14,8 @@ ghost use Rattle.outcomes.specs.Plannable.{Plannable};
 ghost use Rattle.day_result.specs.DayResults.{result_of, day_result};
 ghost use Rattle.day_result.specs.Lasting.{lasting};
 
-use outcomes::VerdictAnswer;
+use outcomes::Verdict;
 use readers::Terms;
-use refusals::Tested;
 use schedule::{Desk, Profile};
 
 // What a day comes to: refused, by its book or its posting; or the posting's idle minutes and worst lateness, and whether a listed plan
@@ -61,17 +60,20 @@ fn result_in<'a>(
         (verdict_outcome (planning_in Ordering (columns release.now minutes.now due.now) free n)
         posting.now) }
 {
-    let verdict = outcomes::verdict_in(Profile::Ordering, release, minutes, due, n, free, posting);
+    let Ok(verdict) = outcomes::verdict_in(
+        Profile::Ordering,
+        release,
+        minutes,
+        due,
+        n,
+        free,
+        posting,
+    ) else {
+        return DayResult::Refused;
+    };
     match verdict {
-        VerdictAnswer::Refused(_, _) => DayResult::Refused,
-        VerdictAnswer::Unbeaten(end, late) => DayResult::Unbeaten(
-            idle_by(minutes, n, free, end),
-            late,
-        ),
-        VerdictAnswer::Beaten(end, late, _) => DayResult::Beaten(
-            idle_by(minutes, n, free, end),
-            late,
-        ),
+        Verdict::Unbeaten(end, late) => DayResult::Unbeaten(idle_by(minutes, n, free, end), late),
+        Verdict::Beaten(end, late, _) => DayResult::Beaten(idle_by(minutes, n, free, end), late),
     }
 }
 
@@ -83,10 +85,9 @@ pub fn day_result(book: &[u32], posting: &[u32]) -> DayResult
         profile: Profile::Ordering,
         opening: 0,
     };
-    let given = readers::read(terms, book);
-    if let Tested::Refused(_, _) = given.outcome {
+    let Ok(given) = readers::read(terms, book) else {
         return DayResult::Refused;
-    }
+    };
     result_in(
         &given.columns.release,
         &given.columns.length,

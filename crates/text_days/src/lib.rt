@@ -117,7 +117,7 @@ fn last_word(classed: bool, value: u32) -> u32
 // The last word of a row, of what stands after its pages: the word class and a class, or a due.
 fn read_last(words: &mut Words<'_>) -> Result<u32, text_words::Wrong> {
     let word = words.next().ok_or(text_words::Wrong::Missing)?;
-    let classed = check::same(word, b"class");
+    let classed = word == b"class".as_slice();
     let value = if classed {
         words.number()?
     } else {
@@ -145,14 +145,11 @@ fn read_row(mut words: Words<'_>) -> Result<[u32; 4], text_words::Wrong> {
 
 // The stage of a line with this first word.
 fn stage_of(word: &[u8]) -> Result<Stage, Wrong> {
-    if check::same(word, b"free") {
-        Ok(Stage::Free)
-    } else if check::same(word, b"pace") {
-        Ok(Stage::Pace)
-    } else if check::same(word, b"row") {
-        Ok(Stage::Row)
-    } else {
-        Err(Wrong::Unknown)
+    match word {
+        b"free" => Ok(Stage::Free),
+        b"pace" => Ok(Stage::Pace),
+        b"row" => Ok(Stage::Row),
+        _ => Err(Wrong::Unknown),
     }
 }
 

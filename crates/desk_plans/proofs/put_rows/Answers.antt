@@ -18,7 +18,8 @@ bounds-rows-place c =
     let a = c.args in
     let l = c.loop-place in
     let h : l.place-index < a.n = omega (arith, length-take a.n a.res.now) in
-    omega (arith, put_place (at a.rows.now) a.n a.res.now l.place-index c.loop-place-test.true l.place-items l.invariant, c.requires.1 l.place-index h)
+    let same = put_place (at a.rows.now) a.n a.res.now l.place-index c.loop-place-test.true l.place-items l.invariant in
+    omega (arith, same, c.requires.1 l.place-index h)
 
 pub loop-place-preserved : goal.loop-place-preserved
 loop-place-preserved c =

@@ -58,9 +58,10 @@ pub returns : goal.returns
 returns c =
     let t = c.take-done in
     let s = c.args in
-    let after = t.ensures ∙ taken s.desk.now s.row s.minute (sym c.is_desk.ensures ∙ c.if-not-is_desk.false) (fits _ _ _ c.is_desk.ensures c.if-not-is_desk.false c.start_tests.ensures c.in_default.is) in
+    let f = fits _ _ _ c.is_desk.ensures c.if-not-is_desk.false c.start_tests.ensures c.in_default.is in
+    let after = t.ensures ∙ taken s.desk.now s.row s.minute (sym c.is_desk.ensures ∙ c.if-not-is_desk.false) f in
     let word = c.type_inv.desk 2 in
-    let w : t.result.worst < 4294967296 = omega (arith, ap (λ (d : Desk). d.worst) after, (fits _ _ _ c.is_desk.ensures c.if-not-is_desk.false c.start_tests.ensures c.in_default.is), word) in
+    let w : t.result.worst < 4294967296 = omega (arith, ap (λ (d : Desk). d.worst) after, f, word) in
     let z = lowered_word t.result.worst c.lower.result w c.lower.ensures ∙ ap (λ (d : Desk). lowered d.worst) after in
     let v = c.store.ensures ∙
     ap (λ (d : Desk). moved_words s.desk.now s.row d.minute d.worst) after in

@@ -22,8 +22,10 @@ loop-i-preserved c =
     let more = noted_row c.args.desk.now l.i l.m l.rows (omega arith) (omega arith) l.invariant.1 in (
       omega arith,
       elim c.if-desk-i-eq0.branch [
-        | then-desk-i-eq0 w ↦ more _ _ (rw (w.m-is, eq-eqb _ 0 w.if-desk-i-eq0.true) refl) (rw (w.rows-is, eq-eqb _ 0 w.if-desk-i-eq0.true) refl)
-        | else-desk-i-eq0 w ↦ more _ _ (rw (w.m-is, ne_eqb _ 0 w.if-desk-i-eq0.false) refl) (rw (w.rows-is, ne_eqb _ 0 w.if-desk-i-eq0.false) refl)
+        | then-desk-i-eq0 w ↦
+            let e = eq-eqb _ 0 w.if-desk-i-eq0.true in more _ _ (rw (w.m-is, e) refl) (rw (w.rows-is, e) refl)
+        | else-desk-i-eq0 w ↦
+            let e = ne_eqb _ 0 w.if-desk-i-eq0.false in more _ _ (rw (w.m-is, e) refl) (rw (w.rows-is, e) refl)
       ],
     )
 
@@ -35,6 +37,8 @@ returns-after-desk-i-eq0 c =
     let l = c.loop-i in
     let more = noted_row c.args.desk.now l.i l.m l.rows (omega arith) (omega arith) l.invariant.1 in
     noted_all c.args.desk.now (count_in c.args.desk.now) (l.i + 1) _ _ (omega arith) (elim c.if-desk-i-eq0.branch [
-      | then-desk-i-eq0 w ↦ more _ _ (rw (w.m-is, eq-eqb _ 0 w.if-desk-i-eq0.true) refl) (rw (w.rows-is, eq-eqb _ 0 w.if-desk-i-eq0.true) refl)
-      | else-desk-i-eq0 w ↦ more _ _ (rw (w.m-is, ne_eqb _ 0 w.if-desk-i-eq0.false) refl) (rw (w.rows-is, ne_eqb _ 0 w.if-desk-i-eq0.false) refl)
+      | then-desk-i-eq0 w ↦
+          let e = eq-eqb _ 0 w.if-desk-i-eq0.true in more _ _ (rw (w.m-is, e) refl) (rw (w.rows-is, e) refl)
+      | else-desk-i-eq0 w ↦
+          let e = ne_eqb _ 0 w.if-desk-i-eq0.false in more _ _ (rw (w.m-is, e) refl) (rw (w.rows-is, e) refl)
     ])
