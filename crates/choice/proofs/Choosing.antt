@@ -12,6 +12,7 @@ use lib.ListN.{length, length-map, take, replicate, length-replicate, get_or-rep
 use lib.Seq.{length-take-le, get_or-take}
 use lib.IntN.{ℤ, pred_ℤ}
 use borrow.Author.Tests.{lt-leb}
+use Rattle.std.specs.Prelude.{Option as CodeOption, Some, None}
 use Rattle.schedule.specs.Limits.{most_desks}
 use Rattle.schedule.specs.Rows.{count_from}
 use Rattle.schedule.specs.Desk.{Pair}
@@ -27,9 +28,12 @@ use Rattle.overtime.specs.Choices.{overtimes, lates, greatest_late, first_plans,
 use Rattle.overtime.proofs.Firsts.{AllRise}
 use Rattle.overtime.proofs.Least.{own, stops, never_keeps, Chooses, chooses}
 use Rattle.choice.specs.declared.Taken.{Taken}
-use Rattle.choice.specs.declared.Taken.TheVariants as variants
-use Rattle.choice.specs.Lists.{ends_at, lates_at, list_at, lists_in, ListedAt, Listed, Behind, taken_of, taken_by, best_of}
+use Rattle.choice.specs.Lists.{ends_at, lates_at, list_at, lists_in, ListedAt, Listed, Behind, taken_at, taken_of, taken_by, best_of}
 use Rattle.choice.proofs.Places.{place_smaller}
+
+-- What is there is one thing.
+pub same_taken : {a b : Taken} → Some a ≡ Some b → a ≡ b
+same_taken e = cc
 
 -- A lateness of pairs in columns is one of the column's, lowered.
 late_at : (es ls : List ℕ) {z : ℤ} → Memᴰ z (lates (pairs_of es ls)) → (k : ℕ) × (k < length ls) × (z ≡ lowered (at ls k))
@@ -95,9 +99,9 @@ module _ (plans : List ℕ) (fronts : List (List ℕ)) (closings : List ℕ) (li
     pub low : 1 ≤ late
     pub below : bound ≡ late - 1
 
-  abbrev pub Standing : Taken → ℕ → Type 0
-  Standing variants.None bound = bound ≡ 4294967295
-  Standing (variants.Plans late sum) bound = SoFar late sum bound
+  abbrev pub Standing : CodeOption Taken → ℕ → Type 0
+  Standing None bound = bound ≡ 4294967295
+  Standing (Some t) bound = SoFar t.late t.overtime bound
 
   module _ (listed : Listed plans fronts (length closings)) (some_desk : 1 ≤ length closings) where
     some_list : 0 < length lists
@@ -110,43 +114,43 @@ module _ (plans : List ℕ) (fronts : List (List ℕ)) (closings : List ℕ) (li
     in_range m = all_raised plans fronts (length closings) 0 (λ e l k. listed e (omega arith)) m
 
     -- What is answered where the first plans within the bound do not keep the limit.
-    pub ended : (best : Taken) (bound : ℕ) → Standing best bound → keeps_limit limit closings (first_plans (lowered bound) lists) ≡ false →
-        best ≡ best_of limit closings lists
+    pub ended : (best : CodeOption Taken) (bound : ℕ) → Standing best bound →
+        keeps_limit limit closings (first_plans (lowered bound) lists) ≡ false → best ≡ best_of limit closings lists
     unfolding taken_by
-    ended variants.None bound s n =
+    ended None bound s n =
         sym (ap (taken_by closings) (never_keeps limit closings lists some_list rise (lowered bound) (λ z m.
         let r = in_range m in
         subst (λ (x : ℤ). x ≼ lowered bound) (sym r.is)
         (omega (arith, r.high, sub_level r.number 2147483648, sub_level bound 2147483648))) n))
-    ended (variants.Plans late sum) bound s n =
+    ended (Some t) bound s n =
         let e : lowered bound ≡ pred_ℤ (greatest_late s.taken) =
-        ap lowered s.below ∙ lowered_pred late s.low ∙ ap pred_ℤ s.greatest in
+        ap lowered s.below ∙ lowered_pred t.late s.low ∙ ap pred_ℤ s.greatest in
         let f = stops limit closings lists some_list rise s.asked s.taken s.first (omega (arith, s.total, s.kept))
         (subst (λ (y : ℤ). keeps_limit limit closings (first_plans y lists) ≡ false) e n) in
-        ap₂ variants.Plans (sym (raised_lowered late) ∙ ap raised s.greatest) s.total ∙ sym (ap (taken_by closings) f)
+        ap₂ (λ (l o : ℕ). Some (taken_at l o)) (sym (raised_lowered t.late) ∙ ap raised s.greatest) s.total ∙ sym (ap (taken_by closings) f)
 
     -- The first plans within the bound are none; or they do not keep the limit; or they do, and are what is taken so far.
     module _ (bound : ℕ) where
       abbrev here : Option (List Pair)
       here = first_plans (lowered bound) lists
 
-      none_kept : (o : Option (List Pair)) → taken_of closings o ≡ variants.None → keeps_limit limit closings o ≡ false
+      none_kept : (o : Option (List Pair)) → taken_of closings o ≡ None → keeps_limit limit closings o ≡ false
       unfolding taken_of
       none_kept none e = refl
       none_kept (some ps) e = never (cc)
 
-      pub ends_none : (best : Taken) → Standing best bound → taken_of closings here ≡ variants.None → best ≡ best_of limit closings lists
+      pub ends_none : (best : CodeOption Taken) → Standing best bound → taken_of closings here ≡ None → best ≡ best_of limit closings lists
       ends_none best s e = ended best bound s (none_kept here e)
 
-      over_limit : (o : Option (List Pair)) (late sum : ℕ) → taken_of closings o ≡ variants.Plans late sum → limit < sum →
+      over_limit : (o : Option (List Pair)) (late sum : ℕ) → taken_of closings o ≡ Some (taken_at late sum) → limit < sum →
           keeps_limit limit closings o ≡ false
       unfolding taken_of
       over_limit none late sum e h = never (cc)
       over_limit (some ps) late sum e h =
-          let s : overtimes closings ps ≡ sum = cc in
+          let s : overtimes closings ps ≡ sum = ap (λ (t : Taken). t.overtime) (same_taken e) in
           lt-leb (overtimes closings ps) limit (omega arith)
 
-      pub ends_over : (best : Taken) → Standing best bound → (late sum : ℕ) → taken_of closings here ≡ variants.Plans late sum →
+      pub ends_over : (best : CodeOption Taken) → Standing best bound → (late sum : ℕ) → taken_of closings here ≡ Some (taken_at late sum) →
           limit < sum → best ≡ best_of limit closings lists
       ends_over best s late sum e h = ended best bound s (over_limit here late sum e h)
 
@@ -154,13 +158,13 @@ module _ (plans : List ℕ) (fronts : List (List ℕ)) (closings : List ℕ) (li
         pub stands : SoFar late sum (late - 1)
         pub within : late ≤ bound
 
-      goes_with : (o : Option (List Pair)) → here ≡ o → (late sum : ℕ) → taken_of closings o ≡ variants.Plans late sum → sum ≤ limit →
+      goes_with : (o : Option (List Pair)) → here ≡ o → (late sum : ℕ) → taken_of closings o ≡ Some (taken_at late sum) → sum ≤ limit →
           Goes late sum
       unfolding taken_of
       goes_with none q late sum e h = never (cc)
       goes_with (some ps) q late sum e h =
-          let s : overtimes closings ps ≡ sum = cc in
-          let l : raised (greatest_late ps) ≡ late = cc in
+          let s : overtimes closings ps ≡ sum = ap (λ (t : Taken). t.overtime) (same_taken e) in
+          let l : raised (greatest_late ps) ≡ late = ap (λ (t : Taken). t.late) (same_taken e) in
           let w = own limit closings lists some_list rise (lowered bound) ps q (omega arith) in
           let r = in_range w.listed in
           let n : late ≡ r.number = sym l ∙ ap raised r.is ∙ raised_lowered r.number in
@@ -180,7 +184,7 @@ module _ (plans : List ℕ) (fronts : List (List ℕ)) (closings : List ℕ) (li
             within = omega (arith, most, sub_level late 2147483648, sub_level bound 2147483648);
           }
 
-      pub goes : (late sum : ℕ) → taken_of closings here ≡ variants.Plans late sum → sum ≤ limit → Goes late sum
+      pub goes : (late sum : ℕ) → taken_of closings here ≡ Some (taken_at late sum) → sum ≤ limit → Goes late sum
       goes late sum e h = goes_with here refl late sum e h
 
     -- What is known of the plans that are chosen: the limit is kept, and the lateness comes back from what it is raised to.

@@ -9,6 +9,7 @@ use mathlib.Core.Path.{◌≡◌, refl, sym, ap, ap₂, ◌∙◌, subst}
 use mathlib.Core.List.{List, [], ◌∷◌, ◌++◌, map, map-append}
 use mathlib.Core.Option.{Option, none, some}
 use lib.Dec.{leb}
+use Rattle.std.specs.Prelude.{Some, None}
 use lib.ListN.{length, length-map, length-set, take, set}
 use lib.IntN.{ℤ}
 use lib.Seq.{length-take-le, get_or-take, take-suc, take-length, get_or-set_same, get_or-set_other}
@@ -22,8 +23,7 @@ use Rattle.schedule.proofs.SignedWords.{raised_lowered}
 use Rattle.schedule.proofs.Raised.{lowered_le, max_lowered}
 use Rattle.listing.specs.Fronts.{pair_at, pairs_of}
 use Rattle.overtime.specs.Choices.{overtime, overtimes, greatest_late, first_within, in_front, first_plans}
-use Rattle.choice.specs.declared.Taken.TheVariants as variants
-use Rattle.choice.specs.Lists.{ends_at, lates_at, list_at, lists_in, place_within, ListedAt, Listed, place_at, Behind, taken_of}
+use Rattle.choice.specs.Lists.{ends_at, lates_at, list_at, lists_in, place_within, ListedAt, Listed, place_at, Behind, taken_at, taken_of}
 use Rattle.choice.proofs.Places.{place_low}
 
 -- The first pair within a bound, of two columns of one length, is that at the place.
@@ -182,7 +182,7 @@ module _ (plans : List ℕ) (fronts : List (List ℕ)) (closings : List ℕ) (bo
           (get_or-take (at plans e) (lates_at fronts e) (place e) 0 k))
 
       pub none_within : place e ≡ at plans e →
-          variants.None ≡ taken_of closings (first_plans (lowered bound) (lists_in plans fronts (length closings)))
+          None ≡ taken_of closings (first_plans (lowered bound) (lists_in plans fronts (length closings)))
       unfolding taken_of
       none_within k =
           let w = no_pair_lem bound es ls (ends_length ∙ sym lates_length) (k ∙ sym lates_length) in
@@ -241,7 +241,7 @@ module _ (plans : List ℕ) (fronts : List (List ℕ)) (closings : List ℕ) (bo
           (o ∙ ap (λ (k : ℕ). overtime (at (ends_at fronts d) k) (at closings d)) e) small)
 
       pub taken_all : d ≡ length closings → 1 ≤ length closings →
-          variants.Plans late sum ≡ taken_of closings (first_plans (lowered bound) (lists_in plans fronts (length closings)))
+          Some (taken_at late sum) ≡ taken_of closings (first_plans (lowered bound) (lists_in plans fronts (length closings)))
       unfolding taken_of
       taken_all e some_desk =
           let m : ℕ = length closings in
@@ -250,4 +250,4 @@ module _ (plans : List ℕ) (fronts : List (List ℕ)) (closings : List ℕ) (bo
           top_greatest (λ i. at (ends_at fronts i) (place i)) (λ i. at (lates_at fronts i) (place i)) m some_desk in
           let s : sum ≡ overtimes closings (firsts_to m) = t.total ∙ ap (λ (n : ℕ). overtimes (take n closings) (firsts_to n)) e ∙
           ap (λ (cs : List ℕ). overtimes cs (firsts_to m)) (take-length closings) in
-          ap₂ variants.Plans y s ∙ sym (ap (taken_of closings) all)
+          ap₂ (λ (l o : ℕ). Some (taken_at l o)) y s ∙ sym (ap (taken_of closings) all)

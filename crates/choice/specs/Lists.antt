@@ -1,6 +1,7 @@
 -- The lists of several desks as the code holds them, and what is taken of them. Only contracts cite it.
 -- Rests on: the lists of plans (listing), what is chosen (overtime).
 use Rattle.std.specs.Prelude.{ℕ, suc, ◌+◌, ◌*◌, ◌≤◌, ◌<◌, cond, ◌≡◌, List, [], ◌∷◌, map, leb, length, get_or, take}
+use Rattle.std.specs.Prelude.{Option as CodeOption, None, Some}
 use Rattle.std.proofs.Math.Option.{Option, none, some}
 use Rattle.schedule.specs.Limits.{most_rows, most_desks}
 use Rattle.schedule.specs.Rows.{count_from}
@@ -11,7 +12,6 @@ use Rattle.schedule.specs.Columns.{at}
 use Rattle.listing.specs.Fronts.{pairs_of}
 use Rattle.overtime.specs.Choices.{overtimes, greatest_late, LeastPlans, best_plans}
 use Rattle.choice.specs.declared.Taken.{Taken}
-use Rattle.choice.specs.declared.Taken.TheVariants as taken
 
 -- The ends and the raised latenesses of desk e, counted from 0; its list; and the lists of all m desks.
 abbrev pub ends_at : (fronts : List (List ℕ)) → ℕ → List ℕ
@@ -50,14 +50,18 @@ pub record Behind (plans : List ℕ) (fronts : List (List ℕ)) (m bound : ℕ) 
   pub places : length cursors ≡ most_desks
   pub behind : (e : ℕ) → e < m → at cursors e ≤ place_at plans fronts bound e
 
+-- The plans with this greatest lateness, raised, and these overtimes added up.
+abbrev pub taken_at : (late overtime : ℕ) → Taken
+taken_at y o = record { late = y; overtime = o }
+
 -- What some plans come to as the code tells it; and what the plans that are chosen do.
-unfoldable pub taken_of : (closings : List ℕ) → Option (List Pair) → Taken
-taken_of closings none = taken.None
-taken_of closings (some ps) = taken.Plans (raised (greatest_late ps)) (overtimes closings ps)
+unfoldable pub taken_of : (closings : List ℕ) → Option (List Pair) → CodeOption Taken
+taken_of closings none = None
+taken_of closings (some ps) = Some (taken_at (raised (greatest_late ps)) (overtimes closings ps))
 
-unfoldable pub taken_by : (closings : List ℕ) → Option LeastPlans → Taken
-taken_by closings none = taken.None
-taken_by closings (some w) = taken.Plans (raised w.late) (overtimes closings w.plans)
+unfoldable pub taken_by : (closings : List ℕ) → Option LeastPlans → CodeOption Taken
+taken_by closings none = None
+taken_by closings (some w) = Some (taken_at (raised w.late) (overtimes closings w.plans))
 
-abbrev pub best_of : (limit : ℕ) (closings : List ℕ) (lists : List (List Pair)) → Taken
+abbrev pub best_of : (limit : ℕ) (closings : List ℕ) (lists : List (List Pair)) → CodeOption Taken
 best_of limit closings lists = taken_by closings (best_plans limit closings lists)

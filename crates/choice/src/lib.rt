@@ -28,11 +28,11 @@ impl Desks {
     pub const COLUMNS: usize = 24;
 }
 
-// A plan for each desk: their greatest lateness, and their overtimes added up; or some desk has none.
+// What a plan for each desk comes to: their greatest lateness, raised by 2^31, and their overtimes added up.
 #[derive(Clone, Copy)]
-pub enum Taken {
-    Plans(u32, u64),
-    None,
+pub struct Taken {
+    pub late: u32,
+    pub overtime: u64,
 }
 
 // The largest bound: the largest signed 32-bit number, raised by 2^31.
@@ -58,14 +58,14 @@ fn over(end: u32, closing: u32) -> u32
     end.saturating_sub(closing)
 }
 
-// Each desk's first listed plan within the bound. The cursor of each desk goes forward to it, and is never past it.
+// Each desk's first listed plan within the bound, or none where one has none. The cursor of each desk goes forward to it, never past it.
 fn first_plans(
     plans: &[usize; Desks::MOST],
     fronts: &[[u32; Desk::ROWS]; Desks::FRONTS],
     closings: &[u32],
     bound: u32,
     cursors: &mut [usize; Desks::MOST],
-) -> Taken
+) -> Option<Taken>
     requires { (1 ≤ length closings.now) × (length closings.now ≤ most_desks) ×
         Listed plans.now fronts.now (length closings.now) ×
         Behind plans.now fronts.now (length closings.now) bound cursors.old }
@@ -74,18 +74,18 @@ fn first_plans(
         Behind plans.now fronts.now (length closings.now) bound cursors.new }
 {
     let mut late: u32 = 0;
-    let mut sum: u64 = 0;
+    let mut overtime: u64 = 0;
     for (d, closing) in closings.iter().enumerate() {
         let count = plans[d];
         let k = place_within(&fronts[2 * d + 1], cursors[d], count, bound);
         if k == count {
-            return Taken::None;
+            return None;
         }
         cursors[d] = k;
         late = late.max(fronts[2 * d + 1][k]);
-        sum += u64::from(over(fronts[2 * d][k], *closing));
+        overtime += u64::from(over(fronts[2 * d][k], *closing));
     }
-    Taken::Plans(late, sum)
+    Some(Taken { late, overtime })
 }
 
 // The plans at the least lateness at which the first plans keep the limit, found with ever smaller bounds.
@@ -94,21 +94,21 @@ pub fn choose(
     fronts: &[[u32; Desk::ROWS]; Desks::FRONTS],
     closings: &[u32],
     limit: u32,
-) -> Taken
+) -> Option<Taken>
     requires { (1 ≤ length closings.now) × (length closings.now ≤ most_desks) ×
         Listed plans.now fronts.now (length closings.now) }
     ensures { result ≡ best_of limit closings.now
         (lists_in plans.now fronts.now (length closings.now)) }
 {
     let mut cursors = [0; Desks::MOST];
-    let mut best = Taken::None;
+    let mut best = None;
     let mut bound = LARGEST_BOUND;
-    while let Taken::Plans(late, sum) = first_plans(plans, fronts, closings, bound, &mut cursors) {
-        if u64::from(limit) < sum {
+    while let Some(taken) = first_plans(plans, fronts, closings, bound, &mut cursors) {
+        if u64::from(limit) < taken.overtime {
             return best;
         }
-        best = Taken::Plans(late, sum);
-        bound = late - 1;
+        best = Some(taken);
+        bound = taken.late - 1;
     }
     best
 }

@@ -8,6 +8,7 @@ use mathlib.Core.Option.{Option, none, some}
 use lib.ListN.{length, take, get_or, length-map}
 use lib.Seq.{take-suc, take-length}
 use lib.IntN.{ℤ}
+use Rattle.std.specs.Prelude.{Option as CodeOption, None, Some, Ok, Err}
 use Rattle.schedule.specs.Rows.{Day, count_from}
 use Rattle.schedule.specs.Desk.{Pair}
 use Rattle.schedule.specs.Offset.{raised, lowered}
@@ -21,19 +22,16 @@ use Rattle.outcomes.specs.Planning.{Planning, gives}
 use Rattle.calls.specs.Planned.{planned}
 use Rattle.overtime.specs.Choices.{overtimes, first_plans, LeastPlans, best_plans, or_empty, plan_orders, lists_of, chosen_from, best_choice}
 use Rattle.choice.specs.declared.Taken.{Taken}
-use Rattle.choice.specs.declared.Taken.TheVariants as taken
-use Rattle.choice.specs.Lists.{list_at, lists_in, Listed, place_at, taken_of, taken_by, best_of}
+use Rattle.choice.specs.Lists.{list_at, lists_in, Listed, place_at, taken_at, taken_of, taken_by, best_of}
 use Rattle.choice.proofs.Taking.{first_at, firsts_to, none_within, inside, firsts_all}
-use Rattle.choice.proofs.Choosing.{Known, best}
-use Rattle.several_books.specs.declared.AllRead.{AllRead}
+use Rattle.choice.proofs.Choosing.{same_taken, Known, best}
+use Rattle.several_books.specs.Held.{AllRead, refusal_of, Slot, slot_at, Holds, ReadAll}
 use Rattle.several_lent.specs.Lent.{books_of}
 use Rattle.several_books.specs.Days.{rows_of, no_day}
-use Rattle.several_books.specs.Held.{Slot, slot_at, Holds, ReadAll}
 use Rattle.several_books.proofs.Desks.{rows_more, books_length, DaysOf}
-use Rattle.several.specs.declared.SeveralAnswer.TheVariants as several-answer
 use Rattle.several_orders.specs.Orders.{rows_to, order_at, orders_to, CanOrder}
 use Rattle.several.specs.Ready.{DaysReady}
-use Rattle.several.specs.Calls.{desks_of, days_outcome}
+use Rattle.several.specs.Calls.{chosen_at, desks_of, days_outcome}
 use Rattle.several.proofs.Outcomes.{days_narrow, days_none, days_some}
 
 -- What is made of each place is what is made of each element.
@@ -120,20 +118,20 @@ module _ (opening : ℕ) (ds : List Day) (free rows plans : List ℕ) (columns f
     abbrev lists : List (List Pair)
     lists = lists_in plans fronts (length closings)
 
-    pub answer_narrow : length b < total → gives (several-answer.Refused 9 0 0) b ≡ days_outcome opening closings limit b ds
+    pub answer_narrow : length b < total → gives (Err (refusal_of 9 0 0)) b ≡ days_outcome opening closings limit b ds
     answer_narrow h = sym (days_narrow opening closings limit b ds (omega (arith, r.summed)))
 
     chosen_is : (o : Option LeastPlans) → best_plans limit closings lists ≡ o → best_choice limit closings desks ≡ chosen_from closings desks o
     unfolding best_choice
     chosen_is o e = ap (chosen_from closings desks) (ap (best_plans limit closings) (sym lists_same) ∙ e)
 
-    none_taken : (o : Option LeastPlans) → taken_by closings o ≡ taken.None → o ≡ none
+    none_taken : (o : Option LeastPlans) → taken_by closings o ≡ None → o ≡ none
     unfolding taken_by
     none_taken none e = refl
     none_taken (some w) e = never (cc)
 
-    pub answer_none : total ≤ length b → (t : Taken) → t ≡ best_of limit closings lists → t ≡ taken.None →
-        gives (several-answer.Refused 16 0 0) b ≡ days_outcome opening closings limit b ds
+    pub answer_none : total ≤ length b → (t : CodeOption Taken) → t ≡ best_of limit closings lists → t ≡ None →
+        gives (Err (refusal_of 16 0 0)) b ≡ days_outcome opening closings limit b ds
     answer_none wide t e n =
         let none_is = none_taken (best_plans limit closings lists) (sym e ∙ n) in
         sym (days_none opening closings limit b ds (omega (arith, r.summed)) (chosen_is none none_is))
@@ -146,13 +144,16 @@ module _ (opening : ℕ) (ds : List Day) (free rows plans : List ℕ) (columns f
       pub overtime : sum ≡ overtimes closings within.plans
 
     plans_taken_by : (o : Option LeastPlans) → best_plans limit closings lists ≡ o → (late sum : ℕ) →
-        taken_by closings o ≡ taken.Plans late sum →
+        taken_by closings o ≡ Some (taken_at late sum) →
         PlansTaken late sum
     unfolding taken_by
     plans_taken_by none q late sum e = never (cc)
-    plans_taken_by (some w) q late sum e = record { within = w; is = q; lateness = cc; overtime = cc }
+    plans_taken_by (some w) q late sum e =
+        let s : taken_at late sum ≡ taken_at (raised w.late) (overtimes closings w.plans) = sym (same_taken e) in
+        record { within = w; is = q; lateness = ap (λ (t : Taken). t.late) s; overtime = ap (λ (t : Taken). t.overtime) s }
 
-    pub plans_taken : (t : Taken) → t ≡ best_of limit closings lists → (late sum : ℕ) → t ≡ taken.Plans late sum → PlansTaken late sum
+    pub plans_taken : (t : CodeOption Taken) → t ≡ best_of limit closings lists → (late sum : ℕ) → t ≡ Some (taken_at late sum) →
+        PlansTaken late sum
     plans_taken t e late sum p = plans_taken_by (best_plans limit closings lists) refl late sum (sym e ∙ p)
 
     module _ (late sum : ℕ) (k : PlansTaken late sum) where
@@ -171,7 +172,7 @@ module _ (opening : ℕ) (ds : List Day) (free rows plans : List ℕ) (columns f
           step : Dec (place_at plans fronts late e ≡ at plans e) → place_at plans fronts late e < at plans e
           step (yes same) = some_taken (none_within plans fronts closings late listed e h same ∙ ap (taken_of closings) first_plans_lem)
             where
-              some_taken : {A : Type 0} → taken.None ≡ taken_of closings (some k.within.plans) → A
+              some_taken : {A : Type 0} → None ≡ taken_of closings (some k.within.plans) → A
               some_taken q = unfold taken_of in never (cc)
           step (no other) = (inside plans fronts closings late listed e h (place_at plans fronts late e) refl other).0
 
@@ -206,10 +207,10 @@ module _ (opening : ℕ) (ds : List Day) (free rows plans : List ℕ) (columns f
 
       pub answer_chosen : total ≤ length b → (y : ℤ) → y ≡ lowered late → (after : List ℕ) →
           after ≡ written (flatten (orders_to free rows plans columns fronts late (length closings))) b →
-          gives (several-answer.Chosen y sum) after ≡ days_outcome opening closings limit b ds
+          gives (Ok (chosen_at y sum)) after ≡ days_outcome opening closings limit b ds
       answer_chosen wide y z after e =
           let l : y ≡ k.within.late = z ∙ ap lowered k.lateness ∙ w.late in
           let o : after ≡ written (flatten (plan_orders desks k.within.plans)) b = e ∙
           ap (λ (os : List (List ℕ)). written (flatten os) b) orders_same in
-          (λ i. gives (several-answer.Chosen (l i) (k.overtime i)) (o i)) ∙
+          (λ i. gives (Ok (chosen_at (l i) (k.overtime i))) (o i)) ∙
           sym (days_some opening closings limit b ds (omega (arith, r.summed)) _ (chosen_is (some k.within) k.is))

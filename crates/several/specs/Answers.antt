@@ -1,10 +1,9 @@
 -- The answer for several desks in the terms of the table of refusals: what the other calls say, and with it the desk that a refusal
 -- concerns, from 1, 0 where it concerns none, and the sum of the overtimes. A field that a case does not speak of is 0.
 -- Rests on: the declared answer, the calls' Answers.
-use Rattle.std.specs.Prelude.{ℕ, ℤ}
+use Rattle.std.specs.Prelude.{ℕ, ℤ, Ok, Err}
 use Rattle.calls.specs.Answers.{Said, said_no}
-use Rattle.several.specs.declared.SeveralAnswer.{SeveralAnswer}
-use Rattle.several.specs.declared.SeveralAnswer.TheVariants as several-answer
+use Rattle.several.specs.Calls.{SeveralAnswer}
 
 pub record SaidOfDesks : Type 0 where
   pub said : Said
@@ -19,5 +18,5 @@ abbrev pub said_no_at : (number place desk : ℕ) → SaidOfDesks
 said_no_at n p d = record { said = said_no n p; desk = d; overtime = 0 }
 
 abbrev pub said_several : SeveralAnswer → SaidOfDesks
-said_several (several-answer.Chosen y o) = said_chosen y o
-said_several (several-answer.Refused n p d) = said_no_at n p d
+said_several (Ok chosen) = said_chosen chosen.late chosen.overtime
+said_several (Err turned) = said_no_at turned.refusal.number turned.refusal.place turned.desk

@@ -7,28 +7,34 @@ use mathlib.Core.Path.{◌≡◌, refl, sym, ap, ◌∙◌, subst}
 use mathlib.Core.List.{List, [], ◌∷◌, ◌++◌, append-nil}
 use lib.ListN.{length, take, drop, get_or, length-append, get_or-append}
 use lib.Seq.{drop-cons, drop-length, drop-drop, get_or-append_seam}
+use Rattle.std.specs.Prelude.{Result, Ok, Err}
+use Rattle.std.specs.Result.{IsErrAnd}
+use Rattle.std.proofs.lemmas.Result.{err_from_is_err_and}
 use Rattle.schedule.specs.Limits.{most_rows}
 use Rattle.schedule.specs.Rows.{Day}
 use Rattle.schedule.specs.Columns.{at}
-use Rattle.refusals.specs.declared.Tested.TheVariants.{Passed, Refused}
-use Rattle.refusals.specs.declared.Tested.{Tested}
+use Rattle.refusals.specs.declared.Refusal.{Refusal}
+use Rattle.refusals.specs.Tests.{Tested, refusal_at}
 use Rattle.refusals.proofs.Tests.{never}
 use Rattle.book.specs.Rows.{Contents, refused, accepted}
 use Rattle.readers.specs.declared.Terms.{Terms}
 use Rattle.readers.specs.Reads.{read_by, outcome_of}
-use Rattle.several_books.specs.declared.AllRead.TheVariants as all_read
-use Rattle.several_books.specs.declared.AllRead.{AllRead}
+use Rattle.several_books.specs.declared.DeskRefusal.{DeskRefusal}
+use Rattle.several_books.specs.Held.{AllRead, refusal_of, Slot, slot_at, Holds, RoomForDesks, ReadInto, DaysHeld, all_read_of, ReadAll}
 use Rattle.several_lent.specs.Lent.{books_of, total}
 use Rattle.several_books.specs.Days.{DesksRead, refused_at, days, day_in_front, with_rest, read_desks, rows_of, no_day}
-use Rattle.several_books.specs.Held.{Slot, slot_at, Holds, RoomForDesks, ReadInto, DaysHeld, all_read_of, ReadAll}
 use Rattle.several_lent.proofs.Sums.{total_next}
 
--- What a test says of the contents.
-refused_by_lem : (x : Contents) (n p : ℕ) → Refused n p ≡ outcome_of x → x ≡ refused n p
-refused_by_lem (refused m q) n p e = cc
-refused_by_lem (accepted day) n p e = never (cc)
+-- A refusal of a desk that `?` hands on.
+pub desk_handed_on : {A : Type 0} {turned : DeskRefusal} (r : Result A DeskRefusal) → IsErrAnd r (λ e. e ≡ turned) → r ≡ Err turned
+desk_handed_on r h = let p = err_from_is_err_and r h in rw (p.1, p.2) refl
 
-accepted_by_lem : (x : Contents) → Passed ≡ outcome_of x → (day : Day) × (x ≡ accepted day)
+-- What a test says of the contents.
+refused_by_lem : (x : Contents) (refusal : Refusal) → Err refusal ≡ outcome_of x → x ≡ refused refusal.number refusal.place
+refused_by_lem (refused m q) refusal e = let same : refusal_at m q ≡ refusal = cc in rw (← same) refl
+refused_by_lem (accepted day) refusal e = never (cc)
+
+accepted_by_lem : (x : Contents) → Ok tt ≡ outcome_of x → (day : Day) × (x ≡ accepted day)
 accepted_by_lem (refused m q) e = never (cc)
 accepted_by_lem (accepted day) e = (day, refl)
 
@@ -124,23 +130,25 @@ module _ (terms : Terms) (books lengths : List ℕ) where
     module _ (h : d < length lengths) (free' rows' plans' : List ℕ) (columns' fronts' : List (List ℕ)) (r : Tested)
         (book : List ℕ) (is-part : book ≡ part_at from d)
         (into : ReadInto terms book d free rows plans columns fronts free' rows' plans' columns' fronts' r) where
-      pub read_refused : (n p : ℕ) → r ≡ Refused n p →
-          ReadAll terms parts free' rows' plans' columns' fronts' (all_read.Refused n p (d + 1))
+      pub read_refused : (refusal : Refusal) → r ≡ Err refusal → (a : AllRead) → a ≡ Err (refusal_of refusal.number refusal.place (d + 1)) →
+          ReadAll terms parts free' rows' plans' columns' fronts' a
       unfolding all_read_of
-      read_refused n p e =
+      read_refused refusal e a f =
+          let n = refusal.number in
+          let p = refusal.place in
           let x : read_by terms (part_at from d) ≡ refused n p = ap (read_by terms) (sym is-part) ∙
-          refused_by_lem (read_by terms book) n p (sym e ∙ into.outcome) in
+          refused_by_lem (read_by terms book) refusal (sym e ∙ into.outcome) in
           let y : onward from d ≡ refused_at n p (suc d) = onward_step from d h ∙
           ap (λ (c : Contents). with_rest (suc d) c (onward (from + at lengths d) (suc d))) x in
           let all : read_desks terms 1 parts ≡ refused_at n p (d + 1) = rw (add-one d)
           (t.rest ∙ ap (behind t.before) y ∙ behind_refused t.before n p (suc d)) in
-          record { outcome = ap all_read_of (sym all); held = λ ds f. never_days (sym all ∙ f) }
+          record { outcome = f ∙ ap all_read_of (sym all); held = λ ds g. never_days (sym all ∙ g) }
         where
-          never_days : {A : Type 0} {ds : List Day} → refused_at n p (d + 1) ≡ days ds → A
+          never_days : {A : Type 0} {n p : ℕ} {ds : List Day} → refused_at n p (d + 1) ≡ days ds → A
           never_days e = never (cc)
 
       -- One book more is accepted.
-      pub read_next : r ≡ Passed →
+      pub read_next : r ≡ Ok tt →
           ReadTo free' rows' plans' columns' fronts' (sum + at rows' d) (from + at lengths d) (d + 1)
       read_next e =
           let x = accepted_by_lem (read_by terms book) (sym e ∙ into.outcome) in
@@ -179,7 +187,7 @@ module _ (terms : Terms) (books lengths : List ℕ) where
               (t.held i (omega arith)))
 
     -- All are read.
-    pub read_end : d ≡ length lengths → ReadAll terms parts free rows plans columns fronts (all_read.Rows sum)
+    pub read_end : d ≡ length lengths → ReadAll terms parts free rows plans columns fronts (Ok sum)
     unfolding all_read_of read_desks books_of
     read_end e =
         let none : drop d lengths ≡ [] = ap (λ (n : ℕ). drop n lengths) e ∙ drop-length lengths in
@@ -187,7 +195,7 @@ module _ (terms : Terms) (books lengths : List ℕ) where
         let all : read_desks terms 1 parts ≡ days t.before =
         t.rest ∙ ap (behind t.before) y ∙ behind_days t.before [] ∙ ap days (append-nil t.before) in
         record {
-          outcome = ap all_read.Rows t.summed ∙ ap all_read_of (sym all);
+          outcome = ap (λ (n : ℕ). Ok n) t.summed ∙ ap all_read_of (sym all);
           held = λ ds f.
               let same : t.before ≡ ds = days_one (sym all ∙ f) in
               subst
@@ -199,13 +207,15 @@ module _ (terms : Terms) (books lengths : List ℕ) where
 -- What all books that were read say: the refusal with its desk, or the days, and their desks.
 module _ (terms : Terms) (books : List (List ℕ)) (free rows plans : List ℕ) (columns fronts : List (List ℕ)) (r : AllRead)
     (all : ReadAll terms books free rows plans columns fronts r) where
-  refusal_of : (x : DesksRead) (n p d : ℕ) → all_read.Refused n p d ≡ all_read_of x → x ≡ refused_at n p d
+  refused_with : (x : DesksRead) (turned : DeskRefusal) → Err turned ≡ all_read_of x →
+      x ≡ refused_at turned.refusal.number turned.refusal.place turned.desk
   unfolding all_read_of
-  refusal_of (refused_at m q e) n p d h = cc
-  refusal_of (days ds) n p d h = never (cc)
+  refused_with (refused_at m q e) turned h = let same : refusal_of m q e ≡ turned = cc in rw (← same) refl
+  refused_with (days ds) turned h = never (cc)
 
-  pub refusal_read : (n p d : ℕ) → r ≡ all_read.Refused n p d → read_desks terms 1 books ≡ refused_at n p d
-  refusal_read n p d e = refusal_of (read_desks terms 1 books) n p d (sym e ∙ all.outcome)
+  pub refusal_read : (turned : DeskRefusal) → r ≡ Err turned →
+      read_desks terms 1 books ≡ refused_at turned.refusal.number turned.refusal.place turned.desk
+  refusal_read turned e = refused_with (read_desks terms 1 books) turned (sym e ∙ all.outcome)
 
   pub record DaysOf (sum : ℕ) : Type 0 where
     pub all_days : List Day
@@ -214,12 +224,12 @@ module _ (terms : Terms) (books : List (List ℕ)) (free rows plans : List ℕ) 
     pub many : length all_days ≡ length books
     pub held : DaysHeld terms.opening all_days free rows plans columns fronts
 
-  days_of : (x : DesksRead) → read_desks terms 1 books ≡ x → (n : ℕ) → all_read.Rows n ≡ all_read_of x → DaysOf n
+  days_of : (x : DesksRead) → read_desks terms 1 books ≡ x → (n : ℕ) → Ok n ≡ all_read_of x → DaysOf n
   unfolding all_read_of
   days_of (refused_at m q e) f n h = never (cc)
   days_of (days ds) f n h =
       let k = all.held ds f in
       record { all_days = ds; read = f; summed = cc; many = k.0; held = k.1 }
 
-  pub days_read : (n : ℕ) → r ≡ all_read.Rows n → DaysOf n
+  pub days_read : (n : ℕ) → r ≡ Ok n → DaysOf n
   days_read n e = days_of (read_desks terms 1 books) refl n (sym e ∙ all.outcome)

@@ -8,6 +8,7 @@ use lib.ListN.{length, take, get_or, set}
 use lib.Seq.{get_or-take}
 use lib.IntN.{ℤ, pos, negsuc}
 use lib.Signed.{◌≤ℤ◌}
+use Rattle.std.specs.Prelude.{Result, Ok, Err}
 use Rattle.schedule.specs.Limits.{most_desks}
 use Rattle.schedule.specs.declared.Profile.TheVariants.{Ordering}
 use Rattle.schedule.specs.Rows.{Day, count_from, jobs}
@@ -20,8 +21,9 @@ use Rattle.schedule.proofs.Signed.{le_z→}
 use Rattle.schedule.proofs.SameJobs.{same_list, same_order}
 use Rattle.schedule.proofs.Filling.{mapped_at}
 use Rattle.search.proofs.Signs.{followed_raised, through_late}
-use Rattle.refusals.specs.declared.Tested.TheVariants.{Passed, Refused}
 use Rattle.refusals.proofs.Tests.{never}
+use Rattle.refusals.specs.declared.Refusal.{Refusal}
+use Rattle.refusals.specs.Tests.{Tested}
 use Rattle.book.specs.Rows.{refused, accepted}
 use Rattle.rows.specs.InColumns.{jobs_of, InColumns}
 use Rattle.readers.specs.declared.Given.{Given}
@@ -123,30 +125,29 @@ module _ (opening : ℕ) (book : List ℕ) (r : Given) (day : Day) (reads : read
       }
 
 -- The book of desk d is read: refused, or put into its place.
-module _ (opening : ℕ) (book : List ℕ) (r : Given) (gives : Gives opening (read_by (ordering_rule opening) book) r) (free rows plans :
-    List ℕ)
-    (columns fronts : List (List ℕ)) (sized : RoomForDesks free rows plans columns fronts) (d : ℕ) where
-  pub into_refused : (n p : ℕ) → r.outcome ≡ Refused n p →
-      ReadInto (ordering_rule opening) book d free rows plans columns fronts free rows plans columns fronts (Refused n p)
-  into_refused n p e =
-      let x = given_refused (read_by (ordering_rule opening) book) r n p gives e in
+module _ (opening : ℕ) (book : List ℕ) (read : Result Given Refusal) (gives : Gives opening (read_by (ordering_rule opening) book) read)
+    (free rows plans : List ℕ) (columns fronts : List (List ℕ)) (sized : RoomForDesks free rows plans columns fronts) (d : ℕ) where
+  pub into_refused : (refusal : Refusal) → read ≡ Err refusal → (r : Tested) → r ≡ Err refusal →
+      ReadInto (ordering_rule opening) book d free rows plans columns fronts free rows plans columns fronts r
+  into_refused refusal e r f =
+      let x = given_refused opening (read_by (ordering_rule opening) book) read refusal gives e in
       record {
-        outcome = ap outcome_of (sym x);
+        outcome = f ∙ ap outcome_of (sym x);
         sized = sized;
         here = λ day a. never_both (sym x ∙ a);
         others = λ e n. refl;
       }
     where
-      never_both : {A : Type 0} {day : Day} → refused n p ≡ accepted day → A
+      never_both : {A : Type 0} {n p : ℕ} {day : Day} → refused n p ≡ accepted day → A
       never_both e = never (cc)
 
-  pub into_accepted : d < most_desks → r.outcome ≡ Passed → (f : Front) →
+  pub into_accepted : d < most_desks → (r : Given) → read ≡ Ok r → (f : Front) →
       HoldsPlans (planning_in Ordering (jobs_of r.columns) r.free r.count).plans r.count f →
       ReadInto (ordering_rule opening) book d free rows plans columns fronts (set free d r.free) (set rows d r.count)
       (set plans d f.count)
-      (columns_put columns fronts d (slot_of r f)) (fronts_put columns fronts d (slot_of r f)) Passed
-  into_accepted h e f p =
-      let x = given_passed (read_by (ordering_rule opening) book) r gives e in
+      (columns_put columns fronts d (slot_of r f)) (fronts_put columns fronts d (slot_of r f)) (Ok tt)
+  into_accepted h r e f p =
+      let x = given_passed opening (read_by (ordering_rule opening) book) read r gives e in
       record {
         outcome = ap outcome_of (sym x.contents);
         sized = put_sized free rows plans columns fronts sized d h (slot_of r f);

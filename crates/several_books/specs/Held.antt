@@ -1,12 +1,12 @@
 -- What is held of several desks once their books are read: rows in columns, and lists. Only contracts cite it.
 -- Rests on: Days, the lists in columns (choice), what is planned (outcomes).
-use Rattle.std.specs.Prelude.{ℕ, ◌+◌, ◌*◌, ◌<◌, ◌≡◌, List, [], length, get_or, take, ℤ}
+use Rattle.std.specs.Prelude.{ℕ, ◌+◌, ◌*◌, ◌<◌, ◌≡◌, List, [], length, get_or, take, ℤ, Result, Ok, Err}
 use Rattle.theory.specs.Jobs.{Job}
 use Rattle.schedule.specs.Limits.{most_desks}
 use Rattle.schedule.specs.declared.Profile.TheVariants.{Ordering}
 use Rattle.schedule.specs.Rows.{Day}
 use Rattle.schedule.specs.Columns.{at, columns}
-use Rattle.refusals.specs.declared.Tested.{Tested}
+use Rattle.refusals.specs.Tests.{Tested, refusal_at}
 use Rattle.book.specs.Rows.{accepted}
 use Rattle.readers.specs.declared.Terms.{Terms}
 use Rattle.readers.specs.Reads.{read_by, outcome_of}
@@ -14,8 +14,7 @@ use Rattle.listing.specs.Fronts.{pairs_of}
 use Rattle.outcomes.specs.Planning.{Planning, planning_in, planning_of}
 use Rattle.outcomes.specs.Plannable.{Plannable}
 use Rattle.choice.specs.Lists.{ends_at, lates_at, ListedAt}
-use Rattle.several_books.specs.declared.AllRead.{AllRead}
-use Rattle.several_books.specs.declared.AllRead.TheVariants as all_read
+use Rattle.several_books.specs.declared.DeskRefusal.{DeskRefusal}
 use Rattle.several_books.specs.Days.{DesksRead, refused_at, days, read_desks, rows_of, no_day}
 
 -- What is held of one desk: its free minute, how many rows and plans it has, its rows in columns, and its list.
@@ -78,10 +77,17 @@ pub record ReadInto (terms : Terms) (book : List ℕ) (d : ℕ)
   pub here : (day : Day) → read_by terms book ≡ accepted day → Holds terms.opening day (slot_at free' rows' plans' columns' fronts' d)
   pub others : (e : ℕ) → ¬ (e ≡ d) → slot_at free' rows' plans' columns' fronts' e ≡ slot_at free rows plans columns fronts e
 
+-- The refusal with this number at this place, of this desk; and what the books give: the count of all rows, or the first refusal.
+abbrev pub refusal_of : (number place desk : ℕ) → DeskRefusal
+refusal_of number place desk = record { refusal = refusal_at number place; desk = desk }
+
+abbrev pub AllRead : Type 0
+AllRead = Result ℕ DeskRefusal
+
 -- All books are read: the first refusal with its desk, or the rows of all days, and each day's desk in its place.
 unfoldable pub all_read_of : DesksRead → AllRead
-all_read_of (refused_at n p d) = all_read.Refused n p d
-all_read_of (days ds) = all_read.Rows (rows_of ds)
+all_read_of (refused_at n p d) = Err (refusal_of n p d)
+all_read_of (days ds) = Ok (rows_of ds)
 
 -- Each of these days has its desk.
 abbrev pub DaysHeld : (opening : ℕ) → List Day → (free rows plans : List ℕ) (columns fronts : List (List ℕ)) → Type 0

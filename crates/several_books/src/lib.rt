@@ -9,14 +9,14 @@ ghost use Rattle.several_books.specs.Held.{RoomForDesks, ReadInto, ReadAll};
 
 use choice::Desks;
 use readers::Terms;
-use refusals::Tested;
+use refusals::Refusal;
 use schedule::{Desk, Profile};
 
-// What the books give: the count of rows of all desks; or the number and place of the first refusal, and its desk, counted from 1.
+// Why a call for several desks is turned down: a refusal, and the desk that it concerns, counted from 1, 0 for none.
 #[derive(Clone, Copy)]
-pub enum AllRead {
-    Rows(usize),
-    Refused(u32, usize, u32),
+pub struct DeskRefusal {
+    pub refusal: Refusal,
+    pub desk: u32,
 }
 
 // The book of desk d, counted from 0: its rows and its list into their columns, or the refusal.
@@ -29,7 +29,7 @@ fn read_into(
     plans: &mut [usize; Desks::MOST],
     columns: &mut [[u32; Desk::PLACES]; Desks::COLUMNS],
     fronts: &mut [[u32; Desk::ROWS]; Desks::FRONTS],
-) -> Tested
+) -> Result<(), Refusal>
     requires { (d < most_desks) × RoomForDesks free.old rows.old plans.old columns.old fronts.old }
     ensures { ReadInto (ordering_rule opening) book.now d
         free.old rows.old plans.old columns.old fronts.old
@@ -39,10 +39,7 @@ fn read_into(
         profile: Profile::Ordering,
         opening,
     };
-    let given = readers::read(terms, book);
-    if let Tested::Refused(number, place) = given.outcome {
-        return Tested::Refused(number, place);
-    }
+    let given = readers::read(terms, book)?;
     let release = given.columns.release;
     let minutes = given.columns.length;
     let due = given.columns.due;
@@ -64,10 +61,10 @@ fn read_into(
     columns[3 * d + 2] = due;
     fronts[2 * d] = ends;
     fronts[2 * d + 1] = lates;
-    Tested::Passed
+    Ok(())
 }
 
-// The books of all desks, each a part of the run: their rows and lists into columns, or the first refusal.
+// The books of all desks, each a part of the run: their rows and lists into columns, and the count of all rows; or the first refusal.
 pub fn read_desks(
     opening: u32,
     books: &[u32],
@@ -77,7 +74,7 @@ pub fn read_desks(
     plans: &mut [usize; Desks::MOST],
     columns: &mut [[u32; Desk::PLACES]; Desks::COLUMNS],
     fronts: &mut [[u32; Desk::ROWS]; Desks::FRONTS],
-) -> AllRead
+) -> Result<usize, DeskRefusal>
     requires { (length lengths.now ≤ most_desks) × (total lengths.now ≡ length books.now) ×
         RoomForDesks free.old rows.old plans.old columns.old fronts.old }
     ensures { ReadAll (ordering_rule opening) (books_of lengths.now books.now)
@@ -87,6 +84,7 @@ pub fn read_desks(
     let mut at: usize = 0;
     for (d, length) in lengths.iter().enumerate() {
         let next = at + (*length as usize);
+        let desk = (d + 1) as u32;
         let outcome = read_into(
             opening,
             &books[at..next],
@@ -97,11 +95,9 @@ pub fn read_desks(
             columns,
             fronts,
         );
-        if let Tested::Refused(number, place) = outcome {
-            return AllRead::Refused(number, place, (d + 1) as u32);
-        }
+        outcome.map_err(|refusal| DeskRefusal { refusal, desk })?;
         total += rows[d];
         at = next;
     }
-    AllRead::Rows(total)
+    Ok(total)
 }

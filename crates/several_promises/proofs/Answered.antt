@@ -15,7 +15,6 @@ use Rattle.schedule.specs.Rows.{Day}
 use Rattle.schedule.specs.Desk.{Pair}
 use Rattle.schedule.proofs.Tests.{is_true}
 use Rattle.schedule.proofs.Filling.{mapped_at}
-use Rattle.book.specs.Rows.{accepted}
 use Rattle.readers.specs.Reads.{ordering_rule}
 use Rattle.readers.specs.Accepted.{AcceptedDay}
 use Rattle.readers.proofs.Accepted.{accepted_day}
@@ -31,8 +30,7 @@ use Rattle.overtime.proofs.Best.{several_desks}
 use Rattle.several_books.specs.Days.{rows_of, no_day}
 use Rattle.several_lent.proofs.Sums.{lent_right}
 use Rattle.several.specs.Answers.{said_several, said_chosen}
-use Rattle.several.specs.declared.SeveralAnswer.{SeveralAnswer}
-use Rattle.several.specs.Calls.{desks_of, days_outcome, several_call}
+use Rattle.several.specs.Calls.{SeveralAnswer, desks_of, days_outcome, several_call}
 use Rattle.several.proofs.Outcomes.{days_none, days_some, call_days}
 use Rattle.several_promises.specs.Table.{several, book_at, TakesAll, Right}
 use Rattle.several_promises.specs.Promise.{FirstListed, Answered, chosen, unkept}

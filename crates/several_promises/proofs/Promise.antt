@@ -24,11 +24,10 @@ use Rattle.overtime.proofs.Best.{measured}
 use Rattle.several_lent.specs.Lent.{books_of, lent_amiss}
 use Rattle.several_books.specs.Days.{DesksRead, refused_at, days, read_desks, rows_of}
 use Rattle.several_lent.proofs.Sums.{lent_right}
-use Rattle.several.specs.declared.SeveralAnswer.{SeveralAnswer}
+use Rattle.several.specs.Calls.{SeveralAnswer, desks_of, days_outcome, several_call}
 use Rattle.several.specs.Answers.{said_several, said_chosen}
-use Rattle.several.specs.Calls.{desks_of, days_outcome, several_call}
 use Rattle.several.proofs.Outcomes.{days_narrow, days_none, days_some, call_amiss, call_refused}
-use Rattle.several_promises.specs.Table.{several, TakesAll, Right, SeveralTurned, lent, book, narrow, overtime}
+use Rattle.several_promises.specs.Table.{TakesAll, Right, SeveralTurned, lent, book, narrow, overtime}
 use Rattle.several_promises.specs.Promise.{SeveralPromise}
 use Rattle.several_promises.proofs.Books.{days_taken}
 use Rattle.several_promises.proofs.Answered.{all_accepted, promise, call_of_days, is_answered}

@@ -8,24 +8,23 @@ use mathlib.Core.List.{List}
 use mathlib.Core.Logic.{◌↔◌}
 use mathlib.Core.Option.{Option, none, some}
 use lib.ListN.{length}
+use Rattle.std.specs.Prelude.{Err}
 use Rattle.schedule.specs.declared.Profile.TheVariants.{Ordering}
 use Rattle.schedule.specs.Rows.{Day}
 use Rattle.schedule.proofs.Tests.{false_is_true}
 use Rattle.refusals.specs.Refusals.{by_range, by_narrow, by_overtime}
 use Rattle.readers.specs.Reads.{ordering_rule}
 use Rattle.readers.proofs.Told.{told_reads}
-use Rattle.book.specs.Rows.{refused}
 use Rattle.outcomes.specs.Planning.{Outcome, gives}
 use Rattle.promises.proofs.Accepted.{takes, book_refused}
 use Rattle.promises.proofs.Numbers.{ordering_numbered}
 use Rattle.overtime.specs.Choices.{Chosen, best_choice}
 use Rattle.several_lent.specs.Lent.{books_of, lent_amiss}
+use Rattle.several_books.specs.Held.{refusal_of}
 use Rattle.several_books.specs.Days.{DesksRead, refused_at, days, read_desks, rows_of}
 use Rattle.several_lent.proofs.Sums.{lent_right}
-use Rattle.several.specs.declared.SeveralAnswer.{SeveralAnswer}
+use Rattle.several.specs.Calls.{SeveralAnswer, desks_of, days_outcome, several_call}
 use Rattle.several.specs.Answers.{SaidOfDesks, said_no_at}
-use Rattle.several.specs.Calls.{desks_of, days_outcome, several_call}
-use Rattle.several.specs.declared.SeveralAnswer.TheVariants as several-answer
 use Rattle.several.proofs.Outcomes.{days_narrow, days_none, days_some, call_amiss, call_refused}
 use Rattle.several_promises.specs.Table.{several, RefusesAt, book_at, TakesAll, Right, SeveralTurned, lent, book, narrow, overtime}
 use Rattle.several_promises.proofs.Books.{days_taken, refused_at_lem, at_refused}
@@ -42,17 +41,17 @@ module _ (opening : ℕ) (books lengths closings : List ℕ) (limit : ℕ) (b : 
   Turned = SeveralTurned opening books lengths closings limit b
 
   -- A refusal that the call gives is the one that it tells.
-  said_no_lem : (n p d : ℕ) → call ≡ gives (several-answer.Refused n p d) b → o ≡ gives (said_no_at n p d) b
+  said_no_lem : (n p d : ℕ) → call ≡ gives (Err (refusal_of n p d)) b → o ≡ gives (said_no_at n p d) b
   said_no_lem n p d e = told_as opening books lengths closings limit b _ e
 
-  refuses : (n p d : ℕ) → 1 ≤ n → call ≡ gives (several-answer.Refused n p d) b → RefusesAt o.answer n p d
+  refuses : (n p d : ℕ) → 1 ≤ n → call ≡ gives (Err (refusal_of n p d)) b → RefusesAt o.answer n p d
   refuses n p d low e =
       let s = said_no_lem n p d e in (
         (low, ap (λ (x : Outcome SaidOfDesks). x.answer.said.number) s, ap (λ (x : Outcome SaidOfDesks). x.answer.said.place) s),
         ap (λ (x : Outcome SaidOfDesks). x.answer.desk) s,
       )
 
-  told_so : {n p d : ℕ} (m q k : ℕ) → RefusesAt o.answer n p d → call ≡ gives (several-answer.Refused m q k) b → Turned m q k →
+  told_so : {n p d : ℕ} (m q k : ℕ) → RefusesAt o.answer n p d → call ≡ gives (Err (refusal_of m q k)) b → Turned m q k →
       Turned n p d
   told_so {n} {p} {d} m q k h e t =
       let s = said_no_lem m q k e in

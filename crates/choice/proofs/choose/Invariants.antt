@@ -6,9 +6,9 @@ use Rattle.choice.specs.Lists.{Behind}
 use Rattle.choice.proofs.Choosing.{Standing}
 use Rattle.choice.proofs.choose.Given as goal
 
-abbrev pub invariant-loop-late : goal.invariant-loop-late
-invariant-loop-late l =
+abbrev pub invariant-loop-taken : goal.invariant-loop-taken
+invariant-loop-taken l =
     Standing l.plans l.fronts l.closings l.limit l.best l.bound × Behind l.plans l.fronts (length l.closings) l.bound l.cursors
 
-abbrev pub decreases-loop-late : goal.decreases-loop-late
-decreases-loop-late l = l.bound
+abbrev pub decreases-loop-taken : goal.decreases-loop-taken
+decreases-loop-taken l = l.bound

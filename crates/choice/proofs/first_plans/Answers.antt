@@ -53,7 +53,7 @@ loop-d-preserved c =
     let loop = c.loop-d in
     let place-within = c.place_within-k in
     let worse = c.max-late in
-    let over = c.from-sum.ensures ∙ c.over.ensures in
+    let over = c.from-overtime.ensures ∙ c.over.ensures in
     taking_more c.args.plans.now c.args.fronts.now c.args.closings.now c.args.bound c.requires.2 _ _ _ _
     loop.invariant
     (omega arith) (omega arith) _ place-within.ensures (listed (goal.at.loop-d-preserved c).Else-k-count).0 _ _ worse.ensures

@@ -4,4 +4,4 @@ use Rattle.choice.proofs.first_plans.Given as goal
 
 abbrev pub invariant-loop-d : goal.invariant-loop-d
 invariant-loop-d l =
-    Taking l.plans l.fronts l.closings l.bound l.cursors l.late l.sum l.d
+    Taking l.plans l.fronts l.closings l.bound l.cursors l.late l.overtime l.d
