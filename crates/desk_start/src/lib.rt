@@ -25,13 +25,14 @@ fn start_tests(desk: &[u32], row: u32, minute: u32) -> Tested
     ensures { result ≡ start_tests (running desk.now) row minute }
 {
     let n = desk[Layout::COUNT];
-    if !((1 <= row) & (row <= n)) {
+    if !(1..=n).contains(&row) {
         return Tested::Refused(Tested::UNLISTED, n as usize);
     }
     let i = row as usize;
     let done = refusals::refuse_if(desk[Layout::MARKS + i] != 0, Tested::DONE, i);
     let early = (minute < desk[Layout::MINUTE])
-        | ((minute < desk[Layout::RELEASES + i]) | (Layout::LATEST_START < minute));
+        | (minute < desk[Layout::RELEASES + i])
+        | (Layout::LATEST_START < minute);
     refusals::then(done, refusals::refuse_if(early, Tested::EARLY, 0))
 }
 
@@ -52,13 +53,12 @@ pub fn start(desk: &mut [u32], row: u32, minute: u32) -> StartAnswer
     if !running::is_desk(desk) {
         return StartAnswer::Refused(Tested::RANGE, 0);
     }
-    let test = start_tests(desk, row, minute);
-    if let Tested::Refused(number, place) = test {
+    if let Tested::Refused(number, place) = start_tests(desk, row, minute) {
         return StartAnswer::Refused(number, place);
     }
     let i = row as usize;
     let free = Desk {
-        minute: minute,
+        minute,
         worst: desk[Layout::WORST],
     };
     let done = free.take(

@@ -27,42 +27,42 @@ fits ws row minute e h t p = start_fits _ ((desk_says _).0 (sym e ∙ h)) _ _ (s
 pub returns-then-not-is_desk : goal.returns-then-not-is_desk
 returns-then-not-is_desk c = sym (start_none _ _ _ (sym c.is_desk.ensures ∙ c.if-not-is_desk.true))
 
-pub start_tests-test-requires : goal.start_tests-test-requires
-start_tests-test-requires c = (sym c.is_desk.ensures ∙ c.if-not-is_desk.false)
+pub start_tests-requires : goal.start_tests-requires
+start_tests-requires c = (sym c.is_desk.ensures ∙ c.if-not-is_desk.false)
 
 pub returns-in-Refused : goal.returns-in-Refused
 returns-in-Refused c =
-    sym (start_no _ _ _ (sym c.is_desk.ensures ∙ c.if-not-is_desk.false) _ _ (sym c.start_tests-test.ensures ∙ c.in-Refused.is))
+    sym (start_no _ _ _ (sym c.is_desk.ensures ∙ c.if-not-is_desk.false) _ _ (sym c.start_tests.ensures ∙ c.in-Refused.is))
 
 pub bounds-desk-2 : goal.bounds-desk-2
-bounds-desk-2 c = omega (arith, (fits _ _ _ c.is_desk.ensures c.if-not-is_desk.false c.start_tests-test.ensures c.in_default.is))
+bounds-desk-2 c = omega (arith, (fits _ _ _ c.is_desk.ensures c.if-not-is_desk.false c.start_tests.ensures c.in_default.is))
 
 pub bounds-desk-i : goal.bounds-desk-i
-bounds-desk-i c = omega (arith, (fits _ _ _ c.is_desk.ensures c.if-not-is_desk.false c.start_tests-test.ensures c.in_default.is))
+bounds-desk-i c = omega (arith, (fits _ _ _ c.is_desk.ensures c.if-not-is_desk.false c.start_tests.ensures c.in_default.is))
 
 pub bounds-desk-i-2 : goal.bounds-desk-i-2
-bounds-desk-i-2 c = omega (arith, (fits _ _ _ c.is_desk.ensures c.if-not-is_desk.false c.start_tests-test.ensures c.in_default.is))
+bounds-desk-i-2 c = omega (arith, (fits _ _ _ c.is_desk.ensures c.if-not-is_desk.false c.start_tests.ensures c.in_default.is))
 
 pub bounds-desk-i-3 : goal.bounds-desk-i-3
-bounds-desk-i-3 c = omega (arith, (fits _ _ _ c.is_desk.ensures c.if-not-is_desk.false c.start_tests-test.ensures c.in_default.is))
+bounds-desk-i-3 c = omega (arith, (fits _ _ _ c.is_desk.ensures c.if-not-is_desk.false c.start_tests.ensures c.in_default.is))
 
 pub take-done-requires : goal.take-done-requires
 take-done-requires c =
-    let f = (fits _ _ _ c.is_desk.ensures c.if-not-is_desk.false c.start_tests-test.ensures c.in_default.is) in
+    let f = (fits _ _ _ c.is_desk.ensures c.if-not-is_desk.false c.start_tests.ensures c.in_default.is) in
     (omega (arith, f), omega (arith, f), omega (arith, f), omega (arith, f))
 
 pub store-requires : goal.store-requires
-store-requires c = let f = (fits _ _ _ c.is_desk.ensures c.if-not-is_desk.false c.start_tests-test.ensures c.in_default.is) in (f.1, f.0)
+store-requires c = let f = (fits _ _ _ c.is_desk.ensures c.if-not-is_desk.false c.start_tests.ensures c.in_default.is) in (f.1, f.0)
 
 pub returns : goal.returns
 returns c =
     let t = c.take-done in
     let s = c.args in
-    let after = t.ensures ∙ taken s.desk.now s.row s.minute (sym c.is_desk.ensures ∙ c.if-not-is_desk.false) (fits _ _ _ c.is_desk.ensures c.if-not-is_desk.false c.start_tests-test.ensures c.in_default.is) in
+    let after = t.ensures ∙ taken s.desk.now s.row s.minute (sym c.is_desk.ensures ∙ c.if-not-is_desk.false) (fits _ _ _ c.is_desk.ensures c.if-not-is_desk.false c.start_tests.ensures c.in_default.is) in
     let word = c.type_inv.desk 2 in
-    let w : t.result.worst < 4294967296 = omega (arith, ap (λ (d : Desk). d.worst) after, (fits _ _ _ c.is_desk.ensures c.if-not-is_desk.false c.start_tests-test.ensures c.in_default.is), word) in
+    let w : t.result.worst < 4294967296 = omega (arith, ap (λ (d : Desk). d.worst) after, (fits _ _ _ c.is_desk.ensures c.if-not-is_desk.false c.start_tests.ensures c.in_default.is), word) in
     let z = lowered_word t.result.worst c.lower.result w c.lower.ensures ∙ ap (λ (d : Desk). lowered d.worst) after in
     let v = c.store.ensures ∙
     ap (λ (d : Desk). moved_words s.desk.now s.row d.minute d.worst) after in
     (λ x. gives (start-answer.Moved (after x).minute (z x)) (v x)) ∙
-    start_moved s.desk.now s.row s.minute (sym c.is_desk.ensures ∙ c.if-not-is_desk.false) (sym c.start_tests-test.ensures ∙ c.in_default.is)
+    start_moved s.desk.now s.row s.minute (sym c.is_desk.ensures ∙ c.if-not-is_desk.false) (sym c.start_tests.ensures ∙ c.in_default.is)
