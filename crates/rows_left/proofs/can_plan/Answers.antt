@@ -9,14 +9,14 @@ rule_tests-rule-requires c =
     let p = c.requires in
     (p.1, p.2, p.3, p.4, p.5)
 
-pub returns-in-Passed : goal.returns-in-Passed
-returns-in-Passed c =
+pub returns-in-Ok : goal.returns-in-Ok
+returns-in-Ok c =
     λ rows n same.
-    let told = sym (c.rule_tests-rule.ensures rows n same) ∙ c.in-Passed.is in
+    let told = sym (c.rule_tests-rule.ensures rows n same) ∙ c.in-Ok.is in
     rw (n, told, and-true)
 
-pub returns-in-Refused : goal.returns-in-Refused
-returns-in-Refused c =
+pub returns-in-Err : goal.returns-in-Err
+returns-in-Err c =
     λ rows n same.
-    let told = sym (c.rule_tests-rule.ensures rows n same) ∙ c.in-Refused.is in
+    let told = sym (c.rule_tests-rule.ensures rows n same) ∙ c.in-Err.is in
     rw (n, told, and-false)
