@@ -28,7 +28,7 @@ use Rattle.running.specs.Words.{desk_words, count_in, running, times, marks, is_
 use Rattle.running.proofs.Fits.{keeps_says}
 use Rattle.running.proofs.Moves.{moved_length, moved_other}
 use Rattle.desk_open.specs.Opens.{opened_words}
-use Rattle.desk_open.proofs.Opened.{opened_held, opened_long}
+use Rattle.desk_open.proofs.OpenedWords.{opened_held, opened_long}
 use Rattle.desk_open.proofs.OpenCall.{open_no, open_short, open_yes}
 use Rattle.desk_start.proofs.StartLaws.{start_none, start_no, start_yes}
 use Rattle.rows_left.proofs.LeftRows.{left_rising}

@@ -55,7 +55,7 @@ use Rattle.rows_left.specs.Left.{plans_here}
 use Rattle.rows_left.proofs.LeftRows.{left_rising, left_mem}
 use Rattle.rows_left.proofs.Gathering.{left_ranged}
 use Rattle.desk_open.specs.Opens.{opened_words}
-use Rattle.desk_open.proofs.Opened.{opened_held}
+use Rattle.desk_open.proofs.OpenedWords.{opened_held}
 use Rattle.desk_open.proofs.OpenCall.{open_yes}
 use Rattle.desk_start.proofs.StartLaws.{start_yes}
 use Rattle.desk_pace.specs.Paces.{job_by_pace}
