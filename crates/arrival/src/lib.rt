@@ -2,8 +2,8 @@
 // Rows are numbered from 1, so columns have 257 places; 0 stands for no row. Latenesses and bounds are raised by 2^31.
 #![tactic(auto)]
 
-ghost use Rattle.std.specs.Prelude.{◌≡◌, ◌++◌, ℕ, ◌≤◌, ◌<◌, length, get_or, take, drop};
-ghost use Rattle.schedule.specs.Limits.{EndsInTime, most_rows, row_places};
+ghost use Rattle.std.specs.Prelude.{ℕ, ◌≤◌, length, get_or};
+ghost use Rattle.schedule.specs.Limits.{EndsInTime, most_rows};
 ghost use Rattle.schedule.specs.Rows.{count_from};
 ghost use Rattle.schedule.specs.Arrival.{arrival_for};
 ghost use Rattle.schedule.specs.Profiles.{plans_by};
@@ -36,11 +36,9 @@ pub fn follow<'a>(
     ensures { Followed (columns release.now minutes.now due.now) free posting.now result }
 {
     let mut desk = Desk::at(free);
-    let mut k = 0;
-    while k < posting.len() {
-        let i = posting[k] as usize;
+    for row in posting {
+        let i = *row as usize;
         desk = desk.take(release[i], minutes[i], due[i]);
-        k += 1;
     }
     desk
 }
@@ -61,10 +59,7 @@ fn arrive<'a>(
     let mut order: [u32; Desk::PLACES] = [0; Desk::PLACES];
     ranks::rows_by_arrival(release, due, n, &mut keys, &mut order);
     let desk = follow(release, minutes, due, free, &order[..n]);
-    Plan {
-        order: order,
-        desk: desk,
-    }
+    Plan { order, desk }
 }
 
 // The list by arrival: the one plan's pair.
@@ -87,8 +82,8 @@ pub fn list_by_arrival<'a>(
     lates[0] = plan.desk.worst;
     Front {
         count: 1,
-        ends: ends,
-        lates: lates,
+        ends,
+        lates,
     }
 }
 
@@ -113,18 +108,6 @@ pub fn order_by_arrival<'a>(
     if bound < desk.worst {
         return Planned::Unkept;
     }
-    write_rows(&plan.order, n, out);
+    out[..n].copy_from_slice(&plan.order[..n]);
     Planned::Kept(desk.minute, desk.worst)
-}
-
-// The first n places of an order, to the front of a lent buffer.
-fn write_rows(order: &[u32; Desk::PLACES], n: usize, out: &mut [u32])
-    requires { (n ≤ most_rows) × (n ≤ length out.old) × (length order.now ≡ row_places) }
-    ensures { out.new ≡ take n order.now ++ drop n out.old }
-{
-    let mut k: usize = 0;
-    while k < n {
-        out[k] = order[k];
-        k += 1;
-    }
 }

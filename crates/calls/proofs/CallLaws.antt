@@ -4,13 +4,12 @@ use Prim.Native.Nat.{ℕ}
 use mathlib.Core.Path.{◌≡◌}
 use mathlib.Core.List.{List}
 use lib.IntN.{ℤ}
+use Rattle.std.specs.Prelude.{Err}
 use Rattle.schedule.specs.Rows.{Day}
+use Rattle.refusals.specs.Tests.{refusal_at}
 use Rattle.book.specs.Rows.{refused, accepted}
 use Rattle.readers.specs.declared.Terms.{Terms}
 use Rattle.readers.specs.Reads.{read_by}
-use Rattle.outcomes.specs.declared.ListAnswer.TheVariants as list-answer
-use Rattle.outcomes.specs.declared.OrderAnswer.TheVariants as order-answer
-use Rattle.outcomes.specs.declared.VerdictAnswer.TheVariants as verdict-answer
 use Rattle.outcomes.specs.Outcomes.{list_outcome, order_outcome, plan_outcome, verdict_outcome}
 use Rattle.outcomes.specs.Planning.{gives}
 use Rattle.calls.specs.Planned.{planned}
@@ -18,19 +17,19 @@ use Rattle.calls.specs.Calls.{list_call, bound_call, plan_call, verdict_call}
 
 -- A refused book turns every call down.
 module _ (terms : Terms) (book : List ℕ) (n p : ℕ) (reads : read_by terms book ≡ refused n p) where
-  pub list_refused : (b : List ℕ) → list_call terms book b ≡ gives (list-answer.Refused n p) b
+  pub list_refused : (b : List ℕ) → list_call terms book b ≡ gives (Err (refusal_at n p)) b
   unfolding list_call
   list_refused b = rw (reads, list_call)
 
-  pub bound_refused : (y : ℤ) (b : List ℕ) → bound_call terms book y b ≡ gives (order-answer.Refused n p) b
+  pub bound_refused : (y : ℤ) (b : List ℕ) → bound_call terms book y b ≡ gives (Err (refusal_at n p)) b
   unfolding bound_call
   bound_refused y b = rw (reads, bound_call)
 
-  pub plan_refused : (k : ℕ) (b : List ℕ) → plan_call terms book k b ≡ gives (order-answer.Refused n p) b
+  pub plan_refused : (k : ℕ) (b : List ℕ) → plan_call terms book k b ≡ gives (Err (refusal_at n p)) b
   unfolding plan_call
   plan_refused k b = rw (reads, plan_call)
 
-  pub verdict_refused : (posting : List ℕ) → verdict_call terms book posting ≡ verdict-answer.Refused n p
+  pub verdict_refused : (posting : List ℕ) → verdict_call terms book posting ≡ Err (refusal_at n p)
   unfolding verdict_call
   verdict_refused posting = rw (reads, verdict_call)
 

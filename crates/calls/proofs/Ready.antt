@@ -6,13 +6,14 @@ use mathlib.Core.Path.{◌≡◌, sym, ◌∙◌, subst}
 use mathlib.Core.List.{List, Memᴰ}
 use lib.ListN.{length}
 use lib.IntN.{ℤ}
+use Rattle.std.specs.Prelude.{Result, Ok}
 use Rattle.theory.specs.Jobs.{Job}
 use Rattle.schedule.specs.Limits.{latest_minute, longest_time, latest_due}
 use Rattle.schedule.specs.Rows.{count_from, Day, jobs}
 use Rattle.schedule.specs.Profiles.{Obeys}
 use Rattle.schedule.proofs.Numbers.{count_range}
 use Rattle.schedule.proofs.SameJobs.{same_rule}
-use Rattle.refusals.specs.declared.Tested.TheVariants.{Passed}
+use Rattle.refusals.specs.declared.Refusal.{Refusal}
 use Rattle.book.specs.Rows.{accepted}
 use Rattle.rows.specs.InColumns.{jobs_of, InColumns}
 use Rattle.readers.specs.declared.Terms.{Terms}
@@ -85,8 +86,8 @@ module _ (terms : Terms) (book : List ℕ) (r : Given) (day : Day) (reads : read
         sym (verdict_of terms book day reads posting);
   }
 
-pub ready : (terms : Terms) (book : List ℕ) (r : Given) → Gives terms.opening (read_by terms book) r → r.outcome ≡ Passed →
-    Ready terms book r
-ready terms book r g o =
-    let d = given_passed (read_by terms book) r g o in
-    ready_of terms book r d.day d.contents d.free d.count d.columns
+pub ready : (terms : Terms) (book : List ℕ) (r : Result Given Refusal) (given : Given) →
+    Gives terms.opening (read_by terms book) r → r ≡ Ok given → Ready terms book given
+ready terms book r given g e =
+    let d = given_passed terms.opening (read_by terms book) r given g e in
+    ready_of terms book given d.day d.contents d.free d.count d.columns

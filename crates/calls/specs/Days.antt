@@ -1,21 +1,17 @@
 -- Days worked through: how a table of questions and expected answers is written, and what it is for such a table to hold of the
 -- definitions. The tables are in planner/specs/Days and first_come/specs/Days. Rests on: Calls, Lines, the readers, the grammar's books.
-use Rattle.std.specs.Prelude.{ℕ, ◌≡◌, length, ℤ, Some}
-use Rattle.std.proofs.Common.{sym, ap, ◌∙◌}
+use Rattle.std.specs.Prelude.{ℕ, ◌≡◌, ℤ, Some}
+use Rattle.std.proofs.Common.{sym, ap, ◌∙◌, Ok, Err}
+use Rattle.refusals.specs.Tests.{refusal_at}
 use mathlib.Core.List.{List, [], ◌∷◌, map, Memᴰ, head-eq_of_cons-eq, tail-eq_of_cons-eq}
 use Rattle.row_reader.specs.NearestMinute.{length_of as lengthFor}
 use Rattle.book.specs.Rows.{Contents, accepted}
 use Rattle.grammar.specs.Books as books
 use Rattle.grammar.specs.Books.{Entry}
 use Rattle.readers.specs.declared.Terms.{Terms}
-use Rattle.row_calls.specs.declared.RowPlace.{RowPlace}
+use Rattle.row_calls.specs.Places.{RowPlace, place_call, words_call}
 use Rattle.readers.specs.Reads.{read_by}
-use Rattle.row_calls.specs.Places.{place_call, words_call}
-use Rattle.outcomes.specs.declared.ListAnswer.{ListAnswer}
-use Rattle.outcomes.specs.declared.ListAnswer.TheVariants as list-answer
-use Rattle.outcomes.specs.declared.OrderAnswer.{OrderAnswer}
-use Rattle.outcomes.specs.declared.OrderAnswer.TheVariants as order-answer
-use Rattle.outcomes.specs.declared.VerdictAnswer.{VerdictAnswer}
+use Rattle.outcomes.specs.Outcomes.{ListAnswer, OrderAnswer, VerdictAnswer}
 use Rattle.outcomes.specs.Planning.{Outcome, gives}
 use Rattle.calls.specs.Calls.{list_call, bound_call, plan_call, verdict_call}
 use Rattle.calls.specs.Lines.{Line, Printed, printed}
@@ -88,13 +84,13 @@ abbrev pub due : ℕ → ℕ → Reply
 due d c = lasts 5 d c 5
 
 abbrev pub plans : ℕ → List ℕ → Reply
-plans k b = lists (gives (list-answer.Plans k) b)
+plans k b = lists (gives (Ok k) b)
 
 abbrev pub order : ℕ → ℤ → List ℕ → Reply
-order e y b = orders (gives (order-answer.Pair e y) b)
+order e y b = orders (gives (Ok (record { end = e; late = y })) b)
 
 abbrev pub turned_down : ℕ → ℕ → List ℕ → Reply
-turned_down n p b = orders (gives (order-answer.Refused n p) b)
+turned_down n p b = orders (gives (Err (refusal_at n p)) b)
 
 abbrev pub line : ℕ → ℤ → List ℕ → Line
 line e y ns = record { end = e; late = y; numbers = ns }

@@ -6,6 +6,7 @@ use native.Mathlib.Decide.{dec_le}
 use mathlib.Core.Path.{◌≡◌, sym, ap, ◌∙◌}
 use mathlib.Core.List.{List}
 use lib.ListN.{length}
+use Rattle.std.specs.Prelude.{Ok}
 use Rattle.schedule.specs.declared.Profile.TheVariants.{Ordering, FirstCome}
 use Rattle.schedule.specs.Rows.{job, Day, jobs, row_numbers}
 use Rattle.schedule.specs.Desk.{Pair}
@@ -17,7 +18,6 @@ use Rattle.readers.specs.Accepted.{AcceptedDay}
 use Rattle.readers.proofs.Accepted.{accepted_day}
 use Rattle.readers.proofs.OneDay.{one_day}
 use Rattle.results.specs.Results.{written, plan_words}
-use Rattle.outcomes.specs.declared.ListAnswer.TheVariants as list-answer
 use Rattle.outcomes.specs.Outcomes.{list_outcome}
 use Rattle.outcomes.specs.Planning.{gives, Planning}
 use Rattle.outcomes.proofs.OutcomeLaws.{list_narrow, list_is}
@@ -75,7 +75,7 @@ module _ (opening : ℕ) (book : List ℕ) (day : Day) (e : read_by (first_come 
       step : Dec (2 * length (row_numbers day) ≤ length b) → list_outcome arriving b ≡ list_outcome ordering b
       step (yes h) =
           list_is arriving b h ∙
-          ap (λ (ps : List Pair). gives (list-answer.Plans (length ps)) (written (plan_words ps) b)) plans_same ∙
+          ap (λ (ps : List Pair). gives (Ok (length ps)) (written (plan_words ps) b)) plans_same ∙
           sym (list_is ordering b h)
       step (no h) = list_narrow arriving b (omega arith) ∙ sym (list_narrow ordering b (omega arith))
 

@@ -6,9 +6,9 @@ use mathlib.Core.Path.{◌≡◌, refl, sym, ap, ◌∙◌}
 use mathlib.Core.List.{List, [], ◌∷◌, ◌++◌}
 use mathlib.Core.Logic.{◌↔◌}
 use lib.ListN.{length, drop}
+use Rattle.std.specs.Prelude.{Ok}
 use Rattle.schedule.specs.Limits.{latest_minute}
 use Rattle.schedule.specs.Rows.{Day}
-use Rattle.refusals.specs.declared.Tested.TheVariants.{Passed}
 use Rattle.refusals.proofs.Tests.{then_left, then_right}
 use Rattle.words.specs.Words.{value, word}
 use Rattle.words.proofs.Words.{Word}
@@ -31,7 +31,7 @@ module _ (free pace : ℕ) (es : List Entry) (m : MayBeWritten free pace es) whe
   abbrev book : List ℕ
   book = book_of free pace es
 
-  head_passes : head_tests book ≡ Passed
+  head_passes : head_tests book ≡ Ok tt
   unfolding head_tests
   head_passes =
       let first : Word 0 latest_minute book 0 = record { there = omega arith; least = omega arith; most = omega (arith, m.free_range) } in

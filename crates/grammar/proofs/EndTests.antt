@@ -10,12 +10,10 @@ use lib.ListN.{length, drop, length-drop}
 use borrow.Author.Tests.{ltb-true, ltb-false, lt-ltb, eqb-true, eqb-false, eq-eqb, not-true, not-false}
 use Rattle.schedule.proofs.Tests.{false_is_true}
 use Rattle.refusals.specs.Refusals.{by_count, by_tail}
-use Rattle.words.specs.Words.{word}
-use Rattle.words.specs.Words.{kind as kind_of, value as value_of}
+use Rattle.words.specs.Words.{word, kind as kind_of, value as value_of}
 use Rattle.row_reader.proofs.Tests.{and_left, and_right}
 use Rattle.book.specs.Rows.{end_stands, end_tests}
-use Rattle.grammar.specs.Words.{Wants, Ranged, kind_at, EndsAfter, Due, Wrong, turn, FirstWrong}
-use Rattle.grammar.specs.Words.{cut, kind, range, twice, full, count, tail}
+use Rattle.grammar.specs.Words.{Wants, Ranged, kind_at, EndsAfter, Due, Wrong, turn, FirstWrong, cut, kind, range, twice, full, count, tail}
 use Rattle.grammar.proofs.Order.{look, turned, Clear, first_wrong}
 use Rattle.grammar.proofs.Conditions.{past_cut, past_kind, past_full, past_range, past_twice, is_count, past_count, past_tail}
 use Rattle.grammar.proofs.Tests.{Leaves, then_leaves, if_leaves, At, same_word}

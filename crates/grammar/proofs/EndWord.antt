@@ -8,7 +8,7 @@ use mathlib.Core.List.{List, [], ◌∷◌}
 use lib.Dec.{ltb, eqb}
 use lib.ListN.{length}
 use borrow.Author.Tests.{ltb-true, ltb-false, lt-ltb, eqb-true, eq-eqb, not-false}
-use Rattle.refusals.specs.declared.Tested.TheVariants.{Passed}
+use Rattle.std.specs.Prelude.{Ok}
 use Rattle.refusals.specs.Refusals.{by_count, by_tail}
 use Rattle.refusals.proofs.Tests.{then_left, then_right, not_refused}
 use Rattle.words.specs.Words.{kind, value, word}
@@ -32,7 +32,7 @@ module _ (n : ℕ) where
   unfolding end_stands
   end_here some low = rw (kind_of 7 n low, lt-ltb 0 n some) refl
 
-  pub end_passes : (place : ℕ) → Low n → end_tests n place (word_of 7 n ∷ []) ≡ Passed
+  pub end_passes : (place : ℕ) → Low n → end_tests n place (word_of 7 n ∷ []) ≡ Ok tt
   unfolding end_tests
   end_passes place low =
       both_pass (test_passes by_count place (ap not (eq-eqb (value (word_of 7 n)) n (value_of 7 n low))))
@@ -44,7 +44,7 @@ module _ (n : ℕ) where
   single (_ ∷ []) h l e = rw e refl
   single (_ ∷ _ ∷ _) h l e = let x : ⊥ = omega arith in absurd x
 
-  pub end_told : (place : ℕ) (ws : List ℕ) → end_stands n ws ≡ true → end_tests n place ws ≡ Passed → (1 ≤ n) × (ws ≡ word_of 7 n ∷ [])
+  pub end_told : (place : ℕ) (ws : List ℕ) → end_stands n ws ≡ true → end_tests n place ws ≡ Ok tt → (1 ≤ n) × (ws ≡ word_of 7 n ∷ [])
   unfolding end_stands end_tests
   end_told place ws e t =
       let w = word ws 0 in

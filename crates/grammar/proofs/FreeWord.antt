@@ -6,12 +6,11 @@ use mathlib.Core.Bool.{Bool, true, false}
 use mathlib.Core.Path.{◌≡◌, refl, ap, ◌∙◌}
 use mathlib.Core.List.{List, [], ◌∷◌, ◌++◌}
 use lib.ListN.{length, drop, get_or}
+use Rattle.std.specs.Prelude.{Ok, Err}
 use Rattle.schedule.specs.Limits.{latest_minute}
 use Rattle.schedule.specs.declared.Row.{Row}
 use Rattle.schedule.specs.Rows.{Day}
-use Rattle.refusals.specs.declared.Tested.{Tested}
-use Rattle.refusals.specs.declared.Tested.TheVariants.{Passed, Refused}
-use Rattle.refusals.specs.Tests.{◌then◌}
+use Rattle.refusals.specs.Tests.{Tested, ◌then◌}
 use Rattle.words.specs.Words.{value, word}
 use Rattle.words.specs.WordTests.{kind_tests, word_tests}
 use Rattle.row_reader.specs.RowWords.{numbers_of, row_tests, row_of}
@@ -31,8 +30,8 @@ freed free (refused n p) = refused n p
 freed free (accepted day) = accepted (day_of free day.rows)
 
 freed_or : (free : ℕ) (o : Tested) (c : Contents) → refused_or o (freed free c) ≡ freed free (refused_or o c)
-freed_or free Passed c = refl
-freed_or free (Refused n p) c = refl
+freed_or free (Ok _) c = refl
+freed_or free (Err refusal) c = refl
 
 rows_freed : (free later more pace : ℕ) (rows : List Row) (place : ℕ) (ws : List ℕ) →
     read_rows more later pace rows place ws ≡ freed later (read_rows more free pace rows place ws)
@@ -56,7 +55,7 @@ rows_freed free later (suc more) pace rows place ws =
         ap (refused_or (row_tests (numbers_of rows) place ws)) e ∙ freed_or later (row_tests (numbers_of rows) place ws) (rest free)
 
 -- A free word in range passes, and the tests of the pace do not see it.
-free_passes : (free : ℕ) (rest : List ℕ) → free ≤ latest_minute → word_tests 1 0 latest_minute 0 (book_from free rest) 0 ≡ Passed
+free_passes : (free : ℕ) (rest : List ℕ) → free ≤ latest_minute → word_tests 1 0 latest_minute 0 (book_from free rest) 0 ≡ Ok tt
 free_passes free rest h = word_passes 1 0 (book_from free rest) 0 0 latest_minute (kind_of 1 free (omega arith))
     (record { there = omega arith; least = omega arith; most = omega arith })
 

@@ -10,7 +10,7 @@ use lib.Seq.{drop-drop}
 use Rattle.schedule.specs.Limits.{most_rows}
 use Rattle.schedule.specs.declared.Row.{Row}
 use Rattle.schedule.specs.Rows.{Day}
-use Rattle.refusals.specs.declared.Tested.{Tested}
+use Rattle.refusals.specs.Tests.{Tested}
 use Rattle.words.specs.Words.{value, word}
 use Rattle.row_reader.specs.RowWords.{numbers_of, row_of}
 use Rattle.book.specs.Rows.{Contents, refused, accepted, refused_or, end_stands, tried_rows, read_rows}

@@ -9,9 +9,8 @@ use lib.Dec.{eqb}
 use lib.ListN.{length, drop}
 use borrow.Author.Tests.{eqb-true}
 use Rattle.schedule.specs.Limits.{latest_minute, latest_due}
-use Rattle.std.specs.Prelude.{None, Some}
+use Rattle.std.specs.Prelude.{None, Some, Ok}
 use Rattle.schedule.specs.Rows.{stands}
-use Rattle.refusals.specs.declared.Tested.TheVariants.{Passed}
 use Rattle.refusals.specs.Refusals.{by_twice}
 use Rattle.refusals.proofs.Tests.{then_left, then_right, not_refused}
 use Rattle.words.specs.Words.{kind, value, word}
@@ -30,11 +29,11 @@ pub record SoldTold (w : ℕ) : Type 0 where
   pub is_word : w ≡ sold_word sold
   pub ranged : SoldInRange sold
 
-sold_told : (place : ℕ) (ws : List ℕ) → due_tests place ws ≡ Passed → SoldTold (word ws 3)
+sold_told : (place : ℕ) (ws : List ℕ) → due_tests place ws ≡ Ok tt → SoldTold (word ws 3)
 unfolding class_of tests_by
 sold_told place ws t = go (eqb (kind (word ws 3)) 0) refl t
   where
-    go : (b : Bool) → eqb (kind (word ws 3)) 0 ≡ b → tests_by (cond b (Some (value (word ws 3))) None) place ws ≡ Passed →
+    go : (b : Bool) → eqb (kind (word ws 3)) 0 ≡ b → tests_by (cond b (Some (value (word ws 3))) None) place ws ≡ Ok tt →
         SoldTold (word ws 3)
     go true e t = record {
       sold = class (value (word ws 3));
@@ -63,7 +62,7 @@ four (_ ∷ _ ∷ []) h p q r s = let x : ⊥ = omega arith in absurd x
 four (_ ∷ _ ∷ _ ∷ []) h p q r s = let x : ⊥ = omega arith in absurd x
 four (_ ∷ _ ∷ _ ∷ _ ∷ ws) h p q r s = rw (p, q, r, s) refl
 
-pub row_told : (numbers : List ℕ) (place : ℕ) (ws : List ℕ) → row_tests numbers place ws ≡ Passed → RowTold numbers ws
+pub row_told : (numbers : List ℕ) (place : ℕ) (ws : List ℕ) → row_tests numbers place ws ≡ Ok tt → RowTold numbers ws
 unfolding row_tests number_tests
 row_told numbers place ws t =
     let f : Fit numbers ws = row_fits numbers place ws t in

@@ -13,9 +13,8 @@ use Rattle.std.specs.Prelude.{None, Some}
 use Rattle.schedule.specs.Rows.{stands}
 use Rattle.refusals.specs.Refusals.{by_full, by_twice}
 use Rattle.refusals.specs.Tests.{◌then◌}
-use Rattle.words.specs.Words.{word}
+use Rattle.words.specs.Words.{word, kind as kind_of, value as value_of}
 use Rattle.words.specs.WordTests.{kind_tests, word_tests}
-use Rattle.words.specs.Words.{kind as kind_of, value as value_of}
 use Rattle.row_reader.specs.Due.{class_of, tests_by, due_tests}
 use Rattle.row_reader.specs.RowWords.{number_tests, row_tests}
 use Rattle.book.specs.Book.{head_tests}

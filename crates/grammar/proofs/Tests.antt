@@ -9,13 +9,11 @@ use lib.Dec.{leb, eqb}
 use lib.ListN.{length, drop, length-drop}
 use lib.Seq.{get_or-drop}
 use borrow.Author.Tests.{leb-true, leb-false, eqb-true, eqb-false, not-true, not-false}
-use Rattle.refusals.specs.declared.Tested.{Tested}
-use Rattle.refusals.specs.declared.Tested.TheVariants.{Passed, Refused}
+use Rattle.std.specs.Prelude.{Ok, Err}
+use Rattle.refusals.specs.Tests.{Tested, refusal_at, refuse_if, ◌then◌}
 use Rattle.refusals.specs.Refusals.{by_cut, by_kind, by_full}
-use Rattle.refusals.specs.Tests.{refuse_if, ◌then◌}
-use Rattle.words.specs.Words.{word}
+use Rattle.words.specs.Words.{word, kind as kind_of}
 use Rattle.words.specs.WordTests.{kind_tests}
-use Rattle.words.specs.Words.{kind as kind_of}
 use Rattle.grammar.specs.Words.{Wants, kind_at, Due, kind, FirstWrong}
 use Rattle.grammar.proofs.Order.{look, Clear, first_wrong}
 use Rattle.grammar.proofs.Conditions.{is_cut, past_cut, past_kind}
@@ -23,8 +21,8 @@ use Rattle.grammar.proofs.Conditions.{is_cut, past_cut, past_kind}
 module _ (book : List ℕ) where
   -- What a test leaves: passed, P; refused, it tells what is wrong first.
   pub data Leaves (P : Type 0) : Tested → Type 0 where
-    passes : P → Leaves P Passed
-    refuses : (n p : ℕ) → FirstWrong book n p → Leaves P (Refused n p)
+    passes : P → Leaves P (Ok tt)
+    refuses : (n p : ℕ) → FirstWrong book n p → Leaves P (Err (refusal_at n p))
 
   pub then_leaves : {P Q : Type 0} {a b : Tested} → Leaves P a → (P → Leaves Q b) → Leaves Q (a then b)
   unfolding ◌then◌

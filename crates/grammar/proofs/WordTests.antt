@@ -10,9 +10,8 @@ use lib.ListN.{length, drop}
 use borrow.Author.Tests.{ltb-true, ltb-false, eqb-true, eqb-false}
 use Rattle.schedule.proofs.Tests.{neither}
 use Rattle.refusals.specs.Refusals.{by_range, by_count}
-use Rattle.words.specs.Words.{word}
+use Rattle.words.specs.Words.{word, value as value_of}
 use Rattle.words.specs.WordTests.{outside, word_tests}
-use Rattle.words.specs.Words.{value as value_of}
 use Rattle.grammar.specs.Words.{Ranged, kind_at, value_at, EndsAfter, Due, range, FirstWrong}
 use Rattle.grammar.proofs.Order.{look, Clear, first_wrong}
 use Rattle.grammar.proofs.Conditions.{past_full, past_range, past_twice, past_count, past_tail}

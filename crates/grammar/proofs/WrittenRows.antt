@@ -7,9 +7,9 @@ use mathlib.Core.Path.{◌≡◌, refl}
 use mathlib.Core.List.{List, ◌∷◌}
 use lib.ListN.{length}
 use borrow.Author.Tests.{lt-leb}
+use Rattle.std.specs.Prelude.{Ok}
 use Rattle.schedule.specs.Limits.{most_rows, latest_minute, latest_due}
 use Rattle.schedule.specs.Rows.{stands}
-use Rattle.refusals.specs.declared.Tested.TheVariants.{Passed}
 use Rattle.refusals.specs.Refusals.{by_twice, by_full}
 use Rattle.words.specs.Words.{kind, value}
 use Rattle.words.proofs.Words.{Word}
@@ -39,7 +39,7 @@ module _ (a b c : ℕ) (rest : List ℕ) where
   due_told (due d) r release minutes = rw (class_told (due d) r, value_of 6 d (omega arith)) refl
   due_told (class c) r release minutes = rw (class_told (class c) r) refl
 
-  due_passes : (s : Sold) → SoldInRange s → (place : ℕ) → due_tests place (with (sold_word s)) ≡ Passed
+  due_passes : (s : Sold) → SoldInRange s → (place : ℕ) → due_tests place (with (sold_word s)) ≡ Ok tt
   unfolding tests_by
   due_passes (due d) r place = rw (class_told (due d) r)
       (word_passes 6 place (with (word_of 6 d)) 3 0 latest_due (kind_of 6 d (omega arith))
@@ -70,7 +70,7 @@ module _ (e : Entry) (ranged : EntryInRange e) (rest : List ℕ) where
       ) refl
 
   pub row_passes : (numbers : List ℕ) (place : ℕ) → length numbers < most_rows → stands e.number numbers ≡ false →
-      row_tests numbers place words ≡ Passed
+      row_tests numbers place words ≡ Ok tt
   unfolding row_tests number_tests
   row_passes numbers place room new =
       let a = word_of 3 e.number in

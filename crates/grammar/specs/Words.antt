@@ -5,8 +5,7 @@ use Rattle.std.specs.Prelude.{ℕ, ◌+◌, ◌*◌, ◌≤◌, ◌<◌, ◌≡�
 use Rattle.schedule.specs.Limits.{most_rows, latest_minute, latest_due, most_pages, least_pace, most_pace}
 use Rattle.schedule.specs.Rows.{Day}
 use Rattle.refusals.specs.Refusals.{by_cut, by_kind, by_range, by_twice, by_full, by_count, by_tail}
-use Rattle.words.specs.Words.{word}
-use Rattle.words.specs.Words.{kind as kind_of, value as value_of}
+use Rattle.words.specs.Words.{word, kind as kind_of, value as value_of}
 use Rattle.book.specs.Rows.{refused, accepted}
 use Rattle.book.specs.Book.{read_words}
 

@@ -36,10 +36,7 @@ pub struct Halving {
 fn keeps_both(desk: Desk, end: u32, bound: u32) -> bool
     ensures { result ≡ (leb desk.worst bound && leb (desk.minute + 2147483648) end) }
 {
-    if bound < desk.worst {
-        return false;
-    }
-    (desk.minute as u64) + 2_147_483_648 <= (end as u64)
+    desk.worst <= bound && u64::from(desk.minute) + 2_147_483_648 <= u64::from(end)
 }
 
 // The latest minute at which the order for the bound keeps both, of rows by rank: `low` does, and no minute past `high`.
@@ -66,7 +63,7 @@ fn halve(
         return Halving {
             found: false,
             minute: low,
-            desk: desk,
+            desk,
             order: best,
         };
     }
@@ -74,18 +71,18 @@ fn halve(
     while low < high {
         let middle = high - (high - low) / 2;
         let s = search::plan_for(release, minutes, due, by, n, middle, bound, &mut order);
-        if !keeps_both(s.desk, end, bound) {
+        if keeps_both(s.desk, end, bound) {
+            low = middle;
+            desk = s.desk;
+            best = order;
+        } else {
             high = middle - 1;
-            continue;
         }
-        low = middle;
-        desk = s.desk;
-        best = order;
     }
     Halving {
         found: true,
         minute: low,
-        desk: desk,
+        desk,
         order: best,
     }
 }

@@ -26,17 +26,11 @@ pub struct Extent {
 pub fn cut_day(words: &[u32]) -> Option<Extent>
     ensures { (cut_day words.now ≡ cut_of words.now result) × ExtentWithin (length words.now) result }
 {
-    if words.len() == 0 {
-        return None;
-    }
-    let book = words[0] as usize;
+    let book = *words.first()? as usize;
     if BOOK < book {
         return None;
     }
-    if words.len() < book + 2 {
-        return None;
-    }
-    let posting = words[book + 1] as usize;
+    let posting = *words.get(book + 1)? as usize;
     if POSTING < posting {
         return None;
     }

@@ -1,14 +1,12 @@
 -- The days worked through, M1 to M13, days with classes, with rows as they arrive, with reading times between whole minutes, with opening
 -- minutes and with a later free minute: the table, and that every entry holds of the definitions. The proof is `days_hold`, in
 -- proofs/Days.antt. Rests on: the calls' Days.
-use Rattle.std.specs.Prelude.{ℕ, List, [], ◌∷◌, pos, negsuc, None}
+use Rattle.std.specs.Prelude.{ℕ, List, [], ◌∷◌, pos, negsuc, None, Ok, Err}
+use Rattle.refusals.specs.Tests.{refusal_at}
 use Rattle.book.specs.Rows.{refused, accepted}
-use Rattle.row_calls.specs.declared.RowPlace.TheVariants as row-place
-use Rattle.outcomes.specs.declared.ListAnswer.TheVariants as list-answer
-use Rattle.outcomes.specs.declared.VerdictAnswer.TheVariants as verdict-answer
-use Rattle.grammar.specs.Books.{word_of}
-use Rattle.grammar.specs.Books.{book_of as book}
+use Rattle.grammar.specs.Books.{word_of, book_of as book}
 use Rattle.outcomes.specs.Planning.{gives}
+use Rattle.outcomes.specs.declared.Verdict.TheVariants as verdict
 use Rattle.calls.specs.Lines.{listing}
 use Rattle.calls.specs.Days.{entry, sold, reading, printing, list, bound, plan, posting, row_words_of, row_place_of, length_of}
 use Rattle.calls.specs.Days.{reads, prints, lists, judges, words, finds, takes, lasts, due, plans, order, turned_down, line}
@@ -82,14 +80,14 @@ days =
     -- M2: with row 903 added there is one plan.
     (printing three_rows gets prints (listing 3 (line 25 (pos 0) (901 ∷ 902 ∷ 903 ∷ []) ∷ []))) ∷
     (list three_rows (0 ∷ 0 ∷ 0 ∷ 0 ∷ 0 ∷ 0 ∷ []) gets plans 1 (25 ∷ 0 ∷ 0 ∷ 0 ∷ 0 ∷ 0 ∷ [])) ∷
-    (list three_rows (1 ∷ 2 ∷ 3 ∷ 4 ∷ 5 ∷ []) gets lists (gives (list-answer.Refused 9 0) (1 ∷ 2 ∷ 3 ∷ 4 ∷ 5 ∷ []))) ∷
+    (list three_rows (1 ∷ 2 ∷ 3 ∷ 4 ∷ 5 ∷ []) gets lists (gives (Err (refusal_at 9 0)) (1 ∷ 2 ∷ 3 ∷ 4 ∷ 5 ∷ []))) ∷
     (plan three_rows 2 [] gets turned_down 11 1 []) ∷
     -- M3, M4, M5: the bounds 6, 0 and -1 in M2.
     (bound three_rows (pos 6) (0 ∷ 0 ∷ 0 ∷ []) gets order 25 (pos 6) (2 ∷ 1 ∷ 3 ∷ [])) ∷
     (bound three_rows (pos 0) (0 ∷ 0 ∷ 0 ∷ 8 ∷ []) gets order 25 (pos 0) (1 ∷ 2 ∷ 3 ∷ 8 ∷ [])) ∷
     (bound three_rows (negsuc 0) (0 ∷ 0 ∷ 0 ∷ []) gets turned_down 12 0 (0 ∷ 0 ∷ 0 ∷ [])) ∷
     -- M6: the posting 2 1 3 in M2 is beaten by plan 1.
-    (posting three_rows (2 ∷ 1 ∷ 3 ∷ []) gets judges (verdict-answer.Beaten 25 (pos 6) 1)) ∷
+    (posting three_rows (2 ∷ 1 ∷ 3 ∷ []) gets judges (Ok (verdict.Beaten 25 (pos 6) 1))) ∷
     -- M7, M8: M1 with row 2 due 13 is accepted, due 14 is refused 8 at 6.
     (reading (two_rows 13) gets reads (accepted (record {
       free = 0;
@@ -112,8 +110,8 @@ days =
     (plan four_rows 2 (0 ∷ 0 ∷ 0 ∷ 0 ∷ []) gets order 122 (pos 0) (1 ∷ 2 ∷ 3 ∷ 4 ∷ [])) ∷
     -- A row's words and their place, in M13.
     (row_words_of four_rows 2 gets words (word_of 3 902 ∷ word_of 4 0 ∷ word_of 5 10 ∷ word_of 6 12 ∷ [])) ∷
-    (row_place_of four_rows 2 gets finds (row-place.At 6)) ∷
-    (row_place_of four_rows 5 gets finds (row-place.Refused 11 4)) ∷
+    (row_place_of four_rows 2 gets finds (Ok 6)) ∷
+    (row_place_of four_rows 5 gets finds (Err (refusal_at 11 4))) ∷
     -- Classes: the eight margins, after release 10 and length 5; class 8 is out of range, and another kind is not due there.
     (reading (class_row 0) gets due 75 0) ∷
     (reading (class_row 1) gets due 135 1) ∷
@@ -138,7 +136,7 @@ days =
     (list mixed_rows (0 ∷ 0 ∷ 0 ∷ 0 ∷ 0 ∷ 0 ∷ 0 ∷ 0 ∷ []) gets plans 2 (121 ∷ 17 ∷ 122 ∷ 0 ∷ 0 ∷ 0 ∷ 0 ∷ 0 ∷ [])) ∷
     (plan mixed_rows 1 (0 ∷ 0 ∷ 0 ∷ 0 ∷ []) gets order 121 (pos 17) (4 ∷ 2 ∷ 1 ∷ 3 ∷ [])) ∷
     (plan mixed_rows 2 (0 ∷ 0 ∷ 0 ∷ 0 ∷ []) gets order 122 (pos 0) (2 ∷ 4 ∷ 3 ∷ 1 ∷ [])) ∷
-    (posting mixed_rows (2 ∷ 4 ∷ 3 ∷ 1 ∷ []) gets judges (verdict-answer.Unbeaten 122 (pos 0))) ∷
+    (posting mixed_rows (2 ∷ 4 ∷ 3 ∷ 1 ∷ []) gets judges (Ok (verdict.Unbeaten 122 (pos 0)))) ∷
     (reading (swapped_rows 14) gets reads (refused 8 6)) ∷
     (reading apart_rows gets reads (refused 8 10)) ∷
     -- Equal dues with different spare: the smaller release plus length goes first, be it the shorter or the longer row; then the smaller
@@ -167,10 +165,10 @@ days =
     with_minutes 1 (list (two_rows 12) (0 ∷ 0 ∷ 0 ∷ 0 ∷ []) gets plans 2 (13 ∷ 8 ∷ 14 ∷ 2 ∷ [])) ∷
     with_minutes 1 (bound three_rows (pos 8) (0 ∷ 0 ∷ 0 ∷ []) gets order 26 (pos 8) (2 ∷ 1 ∷ 3 ∷ [])) ∷
     with_minutes 1 (bound three_rows (pos 1) (0 ∷ 0 ∷ 0 ∷ []) gets turned_down 12 0 (0 ∷ 0 ∷ 0 ∷ [])) ∷
-    with_minutes 1 (posting three_rows (2 ∷ 1 ∷ 3 ∷ []) gets judges (verdict-answer.Beaten 26 (pos 8) 1)) ∷
+    with_minutes 1 (posting three_rows (2 ∷ 1 ∷ 3 ∷ []) gets judges (Ok (verdict.Beaten 26 (pos 8) 1))) ∷
     with_minutes 30 (list (two_rows 12) (0 ∷ 0 ∷ 0 ∷ 0 ∷ []) gets plans 2 (71 ∷ 66 ∷ 72 ∷ 60 ∷ [])) ∷
     with_minutes 30 (list three_rows (0 ∷ 0 ∷ 0 ∷ 0 ∷ 0 ∷ 0 ∷ []) gets plans 1 (106 ∷ 79 ∷ 0 ∷ 0 ∷ 0 ∷ 0 ∷ [])) ∷
-    with_minutes 30 (posting three_rows (1 ∷ 2 ∷ 3 ∷ []) gets judges (verdict-answer.Beaten 107 (pos 80) 1)) ∷
+    with_minutes 30 (posting three_rows (1 ∷ 2 ∷ 3 ∷ []) gets judges (Ok (verdict.Beaten 107 (pos 80) 1))) ∷
     with_minutes 30 (plan four_rows 2 (0 ∷ 0 ∷ 0 ∷ 0 ∷ []) gets order 182 (pos 60) (1 ∷ 2 ∷ 3 ∷ 4 ∷ [])) ∷
     -- Disorder, class dues and ranks count no opening.
     with_minutes 30 (reading (two_rows 14) gets reads (refused 8 6)) ∷
@@ -178,11 +176,11 @@ days =
     with_minutes 30 (list class_and_due (0 ∷ 0 ∷ 0 ∷ 0 ∷ []) gets plans 2 (71 ∷ 9 ∷ 72 ∷ 2 ∷ [])) ∷
     with_minutes 30 (plan (tied_rows 0 8 4 3) 1 (0 ∷ 0 ∷ []) gets order 81 (pos 51) (2 ∷ 1 ∷ [])) ∷
     -- 31 minutes are refused before the book and the buffer are looked at. A row's words are told no opening.
-    with_minutes 31 (list [] [] gets lists (gives (list-answer.Refused 3 0) [])) ∷
+    with_minutes 31 (list [] [] gets lists (gives (Err (refusal_at 3 0)) [])) ∷
     with_minutes 31 (bound (two_rows 14) (pos 0) (7 ∷ []) gets turned_down 3 0 (7 ∷ [])) ∷
     with_minutes 31 (plan (two_rows 12) 3 [] gets turned_down 3 0 []) ∷
-    with_minutes 31 (posting (two_rows 12) [] gets judges (verdict-answer.Refused 3 0)) ∷
-    with_minutes 31 (row_place_of four_rows 2 gets finds (row-place.At 6)) ∷
+    with_minutes 31 (posting (two_rows 12) [] gets judges (Err (refusal_at 3 0))) ∷
+    with_minutes 31 (row_place_of four_rows 2 gets finds (Ok 6)) ∷
     -- A later start. M13 from 1 has the plans that it has from 0, and from 5 the second is 4 late; from 50 there is one plan. Two rows have
     -- one plan from 0, two from 1, and one from 2.
     (list (four_rows_from 1) (0 ∷ 0 ∷ 0 ∷ 0 ∷ 0 ∷ 0 ∷ 0 ∷ 0 ∷ []) gets plans 2 (121 ∷ 17 ∷ 122 ∷ 0 ∷ 0 ∷ 0 ∷ 0 ∷ 0 ∷ [])) ∷

@@ -33,10 +33,10 @@ pub fn list<'a>(
     ensures { HoldsPlans (plans_by profile (columns release.now minutes.now due.now) free
         (count_from 1 n)) n result }
 {
-    if let Profile::FirstCome = profile {
-        return arrival::list_by_arrival(release, minutes, due, n, free);
+    match profile {
+        Profile::FirstCome => arrival::list_by_arrival(release, minutes, due, n, free),
+        Profile::Ordering => list_by_rank(release, minutes, due, n, free),
     }
-    list_by_rank(release, minutes, due, n, free)
 }
 
 // The order for a bound by the profile, written to the front of a lent buffer; a bound that is not kept leaves the buffer as it was.
@@ -56,10 +56,10 @@ pub fn order_for<'a>(
         (order_by profile (columns release.now minutes.now due.now) free (count_from 1 n) (lowered bound))
         bound out.old result out.new }
 {
-    if let Profile::FirstCome = profile {
-        return arrival::order_by_arrival(release, minutes, due, n, free, bound, out);
+    match profile {
+        Profile::FirstCome => arrival::order_by_arrival(release, minutes, due, n, free, bound, out),
+        Profile::Ordering => order_by_rank(release, minutes, due, n, free, bound, out),
     }
-    order_by_rank(release, minutes, due, n, free, bound, out)
 }
 
 // The desk after the rows of a posting in turn.
@@ -157,9 +157,7 @@ pub fn write_order(order: &[u32; Desk::ROWS], rows: &[u32; Desk::PLACES], k: usi
         ((i : ℕ) → i < k → at order.now i ≤ most_rows) }
     ensures { out.new ≡ map (at rows.now) (take k order.now) ++ drop k out.old }
 {
-    let mut i = 0;
-    while i < k {
+    for i in 0..k {
         out[i] = rows[order[i] as usize];
-        i += 1;
     }
 }

@@ -9,12 +9,12 @@ use mathlib.Core.Option.{Option, none, some, none-ne-some, some-injective}
 use lib.ListN.{length, drop, get_elem?}
 use lib.IntN.{ℤ, pos, negsuc}
 use lib.Signed.{◌≤ℤ◌, ◌<ℤ◌}
+use Rattle.std.specs.Prelude.{Ok}
 use Rattle.schedule.specs.Rows.{count_from}
 use Rattle.schedule.specs.Desk.{Pair, OrderOf}
 use Rattle.schedule.specs.Plans.{Beats, plans, first_beating}
 use Rattle.schedule.proofs.Numbers.{length_count}
 use Rattle.schedule.proofs.Signed.{le_z→, →le_z, lt_z→, →lt_z}
-use Rattle.refusals.specs.declared.Tested.TheVariants as tested
 use Rattle.postings.specs.Posting.{posting_tests}
 use Rattle.results.specs.Results.{written, complement, signed, plan_words, or_zero}
 use Rattle.outcomes.specs.Outcomes.{judged_of, list_outcome, order_outcome, plan_outcome, verdict_outcome}
@@ -213,20 +213,20 @@ module _ (g : Planning) (s : Sound g) where
         let f = first_beating_lem 1 defined own in
         record { own = refl; unbeaten = unbeaten_by o f; sooner = sooner_by o f; less_late = less_late_by o f }
 
-    said_judged_lem : (q : Pair) (o : Option ℕ) → said_verdict (judged_of q o) ≡ said_judged q (or_zero o)
+    said_judged_lem : (q : Pair) (o : Option ℕ) → said_verdict (Ok (judged_of q o)) ≡ said_judged q (or_zero o)
     unfolding judged_of
     said_judged_lem q none = refl
     said_judged_lem q (some k) = refl
 
     -- Postings: here the rows are 1 to n.
     module _ (n : ℕ) (rows : g.left ≡ count_from 1 n) (o : ReaderOrder g posting) where
-      passes : posting_tests (length g.left) posting ≡ tested.Passed
+      passes : posting_tests (length g.left) posting ≡ Ok tt
       passes = rw (rows, length_count 1 n) ((posted n posting).1 (subst (λ left. OrderOf left posting) rows o))
 
       pub verdict_front : said_verdict (verdict_outcome g posting) ≡ said_judged own (or_zero (first_beating 1 defined own))
       verdict_front =
           ap said_verdict (verdict_is g posting passes) ∙
-          ap (λ (ps : List Pair). said_verdict (judged_of own (first_beating 1 ps own))) s.front ∙
+          ap (λ (ps : List Pair). said_verdict (Ok (judged_of own (first_beating 1 ps own)))) s.front ∙
           said_judged_lem own (first_beating 1 defined own)
 
       pub judged : (b : List ℕ) → 2 * length g.left ≤ length b →

@@ -10,11 +10,12 @@ use mathlib.Core.List.{List, [], ◌∷◌}
 use mathlib.Core.Logic.{◌⊎◌, inl, inr, ◌↔◌}
 use lib.Dec.{T, ltb, ltb→lt, lt→ltb, eqb, eqb→eq, eqb_refl}
 use lib.ListN.{length, drop, get_or}
+use Rattle.std.specs.Prelude.{Ok, Err}
 use Rattle.schedule.specs.Rows.{stands}
 use Rattle.schedule.proofs.Tests.{or_cases, or_left, or_right, is_true}
 use Rattle.schedule.proofs.Stands.{stands_none, stands_more}
-use Rattle.refusals.specs.declared.Tested.{Tested}
-use Rattle.refusals.specs.declared.Tested.TheVariants.{Passed, Refused}
+use Rattle.refusals.specs.declared.Refusal.{Refusal}
+use Rattle.refusals.specs.Tests.{Tested, refusal_at}
 use Rattle.refusals.specs.Refusals.{by_not_posting}
 use Rattle.postings.specs.Posting.{entry_tests, posting_tests}
 use Rattle.postings.proofs.Entries.{entry_stray, entry_fine, entries_end, posting_short, posting_long, posting_even}
@@ -72,8 +73,8 @@ module _ (n : ℕ) (posting : List ℕ) where
 
   -- How the entries from place k on come out, where none before is stray.
   abbrev Entries : Tested → Type 0
-  Entries Passed = (p : ℕ) → p < length posting → ¬ Stray n posting p
-  Entries (Refused m p) = (m ≡ by_not_posting) × (p < length posting) × Stray n posting p × ((q : ℕ) → q < p → ¬ Stray n posting q)
+  Entries (Ok _) = (p : ℕ) → p < length posting → ¬ Stray n posting p
+  Entries (Err refusal) = (refusal.number ≡ by_not_posting) × (refusal.place < length posting) × Stray n posting refusal.place × ((q : ℕ) → q < refusal.place → ¬ Stray n posting q)
 
   abbrev Clean : ℕ → Type 0
   Clean k = (p : ℕ) → p < k → ¬ Stray n posting p
@@ -104,44 +105,46 @@ module _ (n : ℕ) (posting : List ℕ) where
   all_entries : Entries (entry_tests n [] 0 posting)
   all_entries = entries (length posting) [] 0 (omega arith) seen_none (λ p l. let z : ⊥ = omega arith in absurd z)
 
-  uneven : ¬ (length posting ≡ n) → posting_tests n posting ≡ Refused by_not_posting (min (length posting) n)
+  uneven : ¬ (length posting ≡ n) → posting_tests n posting ≡ Err (refusal_at by_not_posting (min (length posting) n))
   uneven d = step (dec_lt (length posting) n)
     where
-      step : Dec (length posting < n) → posting_tests n posting ≡ Refused by_not_posting (min (length posting) n)
+      step : Dec (length posting < n) → posting_tests n posting ≡ Err (refusal_at by_not_posting (min (length posting) n))
       step (yes l) = let h : length posting ≡ min (length posting) n = omega arith in
-          sym (posting_short n posting l) ∙ ap (Refused by_not_posting) h
+          sym (posting_short n posting l) ∙ ap (λ (place : ℕ). Err (refusal_at by_not_posting place)) h
       step (no l) = let h : n ≡ min (length posting) n = omega arith in
-          sym (posting_long n posting (omega arith)) ∙ ap (Refused by_not_posting) h
+          sym (posting_long n posting (omega arith)) ∙ ap (λ (place : ℕ). Err (refusal_at by_not_posting place)) h
 
-  turned_there : (m p : ℕ) → posting_tests n posting ≡ Refused m p → VerdictTurned n posting m p
+  turned_there : (m p : ℕ) → posting_tests n posting ≡ Err (refusal_at m p) → VerdictTurned n posting m p
   turned_there m p e = step (ℕ_discrete (length posting) n)
     where
-      same : {a b c d : ℕ} → Refused a b ≡ Refused c d → (a ≡ c) × (b ≡ d)
-      same f = (cc, cc)
+      same : {a b c d : ℕ} → ◌≡◌ {A = Tested} (Err (refusal_at a b)) (Err (refusal_at c d)) → (a ≡ c) × (b ≡ d)
+      same f =
+          let g : ◌≡◌ {A = Refusal} (refusal_at _ _) (refusal_at _ _) = cc in
+          (ap (λ (r : Refusal). r.number) g, ap (λ (r : Refusal). r.place) g)
 
       step : Dec (length posting ≡ n) → VerdictTurned n posting m p
       step (no d) =
           let f = same (sym (uneven d) ∙ e) in
           subst (λ (x : ℕ). VerdictTurned n posting x p) f.0 (subst (VerdictTurned n posting by_not_posting) f.1 (wrong_length d))
       step (yes l) =
-          let u : Entries (Refused m p) = subst Entries (posting_even n posting l ∙ e) all_entries in
+          let u : Entries (Err (refusal_at m p)) = subst Entries (posting_even n posting l ∙ e) all_entries in
           subst (λ (x : ℕ). VerdictTurned n posting x p) (sym u.0) (stray l p u.1 u.2 u.3)
 
-  turned_back : (m p : ℕ) → VerdictTurned n posting m p → posting_tests n posting ≡ Refused m p
+  turned_back : (m p : ℕ) → VerdictTurned n posting m p → posting_tests n posting ≡ Err (refusal_at m p)
   turned_back _ _ (wrong_length d) = uneven d
   turned_back _ _ (stray l p inside x first) = sym (posting_even n posting l) ∙ step (entry_tests n [] 0 posting) all_entries
     where
-      step : (t : Tested) → Entries t → t ≡ Refused by_not_posting p
-      step Passed f = absurd (f p inside x)
-      step (Refused m q) f = λ i. Refused (f.0 i) (place i)
+      step : (t : Tested) → Entries t → t ≡ Err (refusal_at by_not_posting p)
+      step (Ok _) f = absurd (f p inside x)
+      step (Err refusal) f = λ i. Err (refusal_at (f.0 i) (place i))
         where
-          place : q ≡ p
-          place = go (dec_lt q p) (dec_lt p q)
+          place : refusal.place ≡ p
+          place = go (dec_lt refusal.place p) (dec_lt p refusal.place)
             where
-              go : Dec (q < p) → Dec (p < q) → q ≡ p
-              go (yes l) d = absurd (first q l f.2)
+              go : Dec (refusal.place < p) → Dec (p < refusal.place) → refusal.place ≡ p
+              go (yes l) d = absurd (first refusal.place l f.2)
               go (no l) (yes d) = absurd (f.3 p d x)
               go (no l) (no d) = omega arith
 
-  pub posting_turned : (m p : ℕ) → (posting_tests n posting ≡ Refused m p) ↔ VerdictTurned n posting m p
+  pub posting_turned : (m p : ℕ) → (posting_tests n posting ≡ Err (refusal_at m p)) ↔ VerdictTurned n posting m p
   posting_turned m p = (turned_there m p, turned_back m p)

@@ -12,7 +12,7 @@ use Rattle.theory.specs.Jobs.{Job}
 use Rattle.schedule.specs.Limits.{most_rows, latest_minute, longest_time, latest_due, latest_book_end, least_lateness}
 use Rattle.schedule.specs.declared.Profile.{Profile}
 use Rattle.schedule.specs.declared.Profile.TheVariants.{Ordering}
-use Rattle.std.specs.Prelude.{Some}
+use Rattle.std.specs.Prelude.{Some, Ok, Err}
 use Rattle.schedule.specs.Rows.{row, job, Day, jobs, row_numbers}
 use Rattle.schedule.specs.Desk.{OrderOf, end_of, pair_of}
 use Rattle.schedule.specs.Cover.{Fits32}
@@ -31,9 +31,7 @@ use Rattle.readers.specs.Reads.{without_opening, read_by}
 use Rattle.readers.specs.Accepted.{AcceptedDay}
 use Rattle.readers.proofs.Accepted.{accepted_day, accepted_ranged}
 use Rattle.readers.proofs.OneClass.{one_class}
-use Rattle.row_calls.specs.declared.RowPlace.{RowPlace}
-use Rattle.row_calls.specs.declared.RowPlace.TheVariants as row-place
-use Rattle.row_calls.specs.Places.{place_in, place_call, row_words_at}
+use Rattle.row_calls.specs.Places.{RowPlace, place_in, place_call, row_words_at}
 use Rattle.results.specs.Results.{written, plan_words}
 use Rattle.outcomes.specs.Outcomes.{verdict_outcome}
 use Rattle.outcomes.specs.Planning.{gives, Planning}
@@ -156,8 +154,8 @@ module _ (terms : Terms) where
     no_words k h = step (place_call profile book k) h
       where
         step : (x : RowPlace) → 1 ≤ (said_place x).number → row_words_at x book ≡ []
-        step (row-place.At a) l = let z : ⊥ = omega arith in absurd z
-        step (row-place.Refused n p) l = refl
+        step (Ok a) l = let z : ⊥ = omega arith in absurd z
+        step (Err refusal) l = refl
 
     -- A book that the calls take: what is planned, and what they give.
     module _ (day : Day) (t : Takes terms book day) where
@@ -181,7 +179,7 @@ module _ (terms : Terms) where
           (calls.place terms book k ≡ calls.said_at (number_word k)) × (calls.words terms book k ≡ take 4 (drop (number_word k) book))
       given_row k l h =
           let r = (takes (without_opening profile) book day).1 (record { opening = omega arith; accepts = t.accepts }) in
-          let e : place_call profile book k ≡ row-place.At (number_word k) = ap (λ (x : Contents). place_in x k) r ∙ row_at day k l h in
+          let e : place_call profile book k ≡ Ok (number_word k) = ap (λ (x : Contents). place_in x k) r ∙ row_at day k l h in
           (ap said_place e, ap (λ (x : RowPlace). row_words_at x book) e)
 
       given : Given terms book day

@@ -12,22 +12,20 @@ use lib.Dec.{ltb, eqb}
 use lib.ListN.{length, get_or}
 use lib.IntN.{ℤ, pos}
 use borrow.Author.Tests.{lt-ltb, le-ltb, ne_eqb}
+use Rattle.std.specs.Prelude.{Ok, Err}
 use Rattle.schedule.specs.Limits.{most_opening}
 use Rattle.schedule.specs.Rows.{Day}
 use Rattle.schedule.specs.Desk.{Pair, pair_of}
 use Rattle.schedule.specs.Plans.{first_beating}
 use Rattle.schedule.proofs.Tests.{false_is_true}
-use Rattle.refusals.specs.declared.Tested.{Tested}
-use Rattle.refusals.specs.declared.Tested.TheVariants as tested
+use Rattle.refusals.specs.Tests.{Tested, refusal_at}
 use Rattle.refusals.specs.Refusals.{by_range, by_unlisted, by_narrow, by_unkept}
 use Rattle.pairs.specs.Pairs.{number_word}
 use Rattle.book.specs.Rows.{Contents, refused, accepted}
 use Rattle.readers.specs.declared.Terms.{Terms}
 use Rattle.readers.specs.Reads.{read_by}
 use Rattle.readers.proofs.Told.{told_reads, untold_refused}
-use Rattle.row_calls.specs.declared.RowPlace.{RowPlace}
-use Rattle.row_calls.specs.declared.RowPlace.TheVariants.{At, Refused}
-use Rattle.row_calls.specs.Places.{place_in}
+use Rattle.row_calls.specs.Places.{RowPlace, place_in}
 use Rattle.postings.specs.Posting.{posting_tests}
 use Rattle.outcomes.specs.Outcomes.{judged_of, list_outcome, order_outcome, plan_outcome, verdict_outcome}
 use Rattle.outcomes.specs.Planning.{nth, Planning}
@@ -199,22 +197,22 @@ module _ (g : Planning) where
       Refuses (said_verdict (verdict_outcome g posting)) n p ↔ VerdictTurned (length g.left) posting n p
   verdict_turned posting n p = (λ h. there h (posting_tests (length g.left) posting) refl, back)
     where
-      said_zero : (q : Pair) (o : Option ℕ) → (said_verdict (judged_of q o)).number ≡ 0
+      said_zero : (q : Pair) (o : Option ℕ) → (said_verdict (Ok (judged_of q o))).number ≡ 0
       said_zero q none = unfold judged_of in refl
       said_zero q (some k) = unfold judged_of in refl
 
       there : Refuses (said_verdict (verdict_outcome g posting)) n p → (t : Tested) → posting_tests (length g.left) posting ≡ t →
           VerdictTurned (length g.left) posting n p
-      there h tested.Passed e =
+      there h (Ok _) e =
           let q = pair_of g.job g.minute posting in
           let z = ap (λ v. (said_verdict v).number) (verdict_is g posting e) ∙ said_zero q (first_beating 1 g.plans q) in
           let x : ⊥ = omega (arith, h.0, h.1) in
           absurd x
-      there h (tested.Refused m q) e =
-          let v = verdict_no g posting m q e in
-          let f : m ≡ n = sym (ap (λ v. (said_verdict v).number) v) ∙ h.1 in
-          let k : q ≡ p = sym (ap (λ v. (said_verdict v).place) v) ∙ h.2 in
-          (posting_turned (length g.left) posting n p).0 (e ∙ (λ i. tested.Refused (f i) (k i)))
+      there h (Err refusal) e =
+          let v = verdict_no g posting refusal e in
+          let f : refusal.number ≡ n = sym (ap (λ v. (said_verdict v).number) v) ∙ h.1 in
+          let k : refusal.place ≡ p = sym (ap (λ v. (said_verdict v).place) v) ∙ h.2 in
+          (posting_turned (length g.left) posting n p).0 (e ∙ (λ i. Err (refusal_at (f i) (k i))))
 
       ten : {m q : ℕ} → VerdictTurned (length g.left) posting m q → 1 ≤ m
       ten (table.wrong_length d) = omega arith
@@ -223,14 +221,14 @@ module _ (g : Planning) where
       back : VerdictTurned (length g.left) posting n p → Refuses (said_verdict (verdict_outcome g posting)) n p
       back t =
           let e = (posting_turned (length g.left) posting n p).1 t in
-          let v = verdict_no g posting n p e in (
+          let v = verdict_no g posting (refusal_at n p) e in (
             ten t,
             ap (λ v. (said_verdict v).number) v,
             ap (λ v. (said_verdict v).place) v,
           )
 
 -- The call for a row of a day.
-pub row_at : (day : Day) (k : ℕ) → 1 ≤ k → k ≤ length day.rows → place_in (accepted day) k ≡ At (number_word k)
+pub row_at : (day : Day) (k : ℕ) → 1 ≤ k → k ≤ length day.rows → place_in (accepted day) k ≡ Ok (number_word k)
 unfolding place_in
 row_at day k l h = rw (ne_eqb k 0 (λ e. omega arith), le-ltb (length day.rows) k h)
 
@@ -240,7 +238,7 @@ unfolding place_in
 row_out day k d = step (eqb k 0) refl (dec_le k (length day.rows))
   where
     step : (b : Bool) → eqb k 0 ≡ b → Dec (k ≤ length day.rows) →
-        said_place (cond (eqb k 0 || ltb (length day.rows) k) (Refused by_unlisted (length day.rows)) (At (number_word k))) ≡
+        said_place (cond (eqb k 0 || ltb (length day.rows) k) (Err (refusal_at by_unlisted (length day.rows))) (Ok (number_word k))) ≡
         said_no by_unlisted (length day.rows)
     step true e h = rw e refl
     step false e (no h) = rw (e, lt-ltb (length day.rows) k (omega arith)) refl

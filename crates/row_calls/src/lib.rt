@@ -14,18 +14,13 @@ fn place_among(count: usize, row: u32) -> Result<usize, Refusal>
     ensures { PlaceAmong count row result }
 {
     let k = row as usize;
-    let unlisted = Err(Refusal {
-        number: Refusal::UNLISTED,
-        place: count,
-    });
-    if k == 0 {
-        return unlisted;
+    if k == 0 || count < k {
+        return Err(Refusal {
+            number: Refusal::UNLISTED,
+            place: count,
+        });
     }
-    if count < k {
-        return unlisted;
-    }
-    let place = 4 * (k - 1) + 2;
-    Ok(place)
+    Ok(4 * (k - 1) + 2)
 }
 
 // The place of a row's number word, rows counted from 1, or the refusal. It works out no ends, and is told no opening.
@@ -46,10 +41,7 @@ fn words_at<'a>(book: &'a [u32], found: Result<usize, Refusal>) -> &'a [u32]
     ensures { result.now ≡ row_words_at found book.now }
 {
     match found {
-        Ok(start) => {
-            let end = start + 4;
-            &book[start..end]
-        }
+        Ok(start) => &book[start..start + 4],
         Err(_) => &book[0..0],
     }
 }

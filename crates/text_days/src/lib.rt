@@ -10,7 +10,8 @@
 // reader to judge: here a number has only to fit the 29 bits of a word's value.
 #![tactic(auto)]
 
-ghost use Rattle.std.specs.Prelude.{◌≡◌, ◌+◌, ◌*◌, ◌%◌, ◌≤◌, ◌<◌, cond, length, IfSome, OnErr};
+ghost use Rattle.std.specs.Prelude.{◌≡◌, ◌+◌, ◌*◌, ◌%◌, ◌≤◌, ◌<◌, cond, length, IfSome, OnOk, OnErr, slice_index};
+ghost use Rattle.text_days.specs.declared.Stage.TheVariants.{Free, Row};
 
 use std::fmt;
 use text_words::Words;
@@ -116,7 +117,7 @@ fn last_word(classed: bool, value: u32) -> u32
 // The last word of a row, of what stands after its pages: the word class and a class, or a due.
 fn read_last(words: &mut Words<'_>) -> Result<u32, text_words::Wrong> {
     let word = words.next().ok_or(text_words::Wrong::Missing)?;
-    let classed = check::same(word, b"class");
+    let classed = word == b"class".as_slice();
     let value = if classed {
         words.number()?
     } else {
@@ -144,14 +145,11 @@ fn read_row(mut words: Words<'_>) -> Result<[u32; 4], text_words::Wrong> {
 
 // The stage of a line with this first word.
 fn stage_of(word: &[u8]) -> Result<Stage, Wrong> {
-    if check::same(word, b"free") {
-        Ok(Stage::Free)
-    } else if check::same(word, b"pace") {
-        Ok(Stage::Pace)
-    } else if check::same(word, b"row") {
-        Ok(Stage::Row)
-    } else {
-        Err(Wrong::Unknown)
+    match word {
+        b"free" => Ok(Stage::Free),
+        b"pace" => Ok(Stage::Pace),
+        b"row" => Ok(Stage::Row),
+        _ => Err(Wrong::Unknown),
     }
 }
 
@@ -163,7 +161,7 @@ impl Day {
 
     // A day of which nothing is read, that begins at a place.
     pub fn new(place: Place) -> Day
-        ensures { (result.place ≡ place) × (result.rows ≡ 0) }
+        ensures { (result.place ≡ place) × (result.stage ≡ Free) × (result.rows ≡ 0) }
     {
         Day {
             place,
@@ -251,7 +249,10 @@ impl Day {
     }
 
     // Puts the end word to the book of a day that ends here.
-    pub fn finish(&self, book: &mut Book) -> Result<(), Wrong> {
+    pub fn finish(&self, book: &mut Book) -> Result<(), Wrong>
+        ensures rows { OnOk result ((self.now.stage ≡ Row) × (0 < self.now.rows)) }
+        ensures end { OnOk result (slice_index book.new (4 * self.now.rows + 2) ≡ 7 * 536870912 + self.now.rows) }
+    {
         match self.stage {
             Stage::Free => return Err(Wrong::NoFree),
             Stage::Pace => return Err(Wrong::NoPace),

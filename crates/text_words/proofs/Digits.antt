@@ -9,10 +9,11 @@ use mathlib.Core.Path.{◌≡◌, refl, ap, sym, ◌∙◌}
 use lib.ListN.{length, drop, get_or}
 use lib.Seq.{drop-cons, drop-length}
 use borrow.Author.Tests.{lt-ltb, le-ltb}
-use Rattle.std.specs.Prelude.{Ok, Err}
+use Rattle.std.specs.Prelude.{Ok, Err, IfOk}
 use Rattle.text_words.specs.declared.Wrong.TheVariants.{Missing, Strange, Large}
 use Rattle.std.specs.List.{list_all}
-use Rattle.text_words.specs.Numbers.{is_digit, all_digits, decimal, sized, number_of}
+use Rattle.std.proofs.Math.Decide.{dec_lt}
+use Rattle.text_words.specs.Numbers.{Number, is_digit, all_digits, decimal, sized, number_of}
 
 split : (w : List ℕ) (i : ℕ) → i < length w → drop i w ≡ get_or w i 0 ∷ drop (i + 1) w
 split w i h = rw add-one (drop-cons w i 0 h)
@@ -60,3 +61,17 @@ pub number_digits : (w : List ℕ) → (length w ≡ 0 → ⊥) → all_digits w
 unfolding number_of
 number_digits [] h e = absurd (h refl)
 number_digits (b ∷ bs) h e = rw (e, number_of)
+
+sized_bound : (v : ℕ) → Dec (v < 536870912) → IfOk (sized v) (λ n. n < 536870912)
+sized_bound v (yes h) = rw (sized_small v h) h
+sized_bound v (no h) = rw (sized_large v (omega arith)) tt
+
+tested : (t : Bool) (v : ℕ) → IfOk (elim t as (λ x. Number) [ true ↦ sized v | false ↦ Err Strange ]) (λ n. n < 536870912)
+tested true v = sized_bound v (dec_lt v 536870912)
+tested false v = tt
+
+-- A number has 29 bits.
+pub number_bound : (w : List ℕ) → IfOk (number_of w) (λ n. n < 536870912)
+unfolding number_of
+number_bound [] = tt
+number_bound (b ∷ bs) = tested (all_digits (b ∷ bs)) (decimal 0 (b ∷ bs))

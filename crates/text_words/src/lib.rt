@@ -2,8 +2,9 @@
 // line. A number is digits only, and fits the 29 bits of the value of a book's word.
 #![tactic(auto)]
 
-ghost use Rattle.std.specs.Prelude.{◌≡◌, ◌+◌, ◌≤◌, ◌<◌, length, IfOk, IfSome};
+ghost use Rattle.std.specs.Prelude.{◌≡◌, ◌+◌, ◌≤◌, ◌<◌, length, IfOk, IfErr, IfSome};
 ghost use Rattle.std.specs.Iterator.{at_most};
+ghost use Rattle.text_words.specs.declared.Wrong.TheVariants.{More};
 ghost use Rattle.text_words.specs.Numbers.{all_digits, decimal, sized, number_of};
 
 // The most numbers of a line: those of a posting.
@@ -96,12 +97,17 @@ impl<'a> Iterator for Words<'a> {
 
 impl<'a> Words<'a> {
     // The next word of the line as a number.
-    pub fn number(&mut self) -> Result<u32, Wrong> {
+    #[tactic(auto, using(crate::proofs::Digits::number_bound))]
+    pub fn number(&mut self) -> Result<u32, Wrong>
+        ensures { IfOk result (λ value. value < 536870912) }
+    {
         number_of(self.next().ok_or(Wrong::Missing)?)
     }
 
     // The line ends here.
-    pub fn end(&mut self) -> Result<(), Wrong> {
+    pub fn end(&mut self) -> Result<(), Wrong>
+        ensures { IfErr result (λ wrong. wrong ≡ More) }
+    {
         match self.next() {
             None => Ok(()),
             Some(_) => Err(Wrong::More),

@@ -1,7 +1,8 @@
 // Which line of a text is wrong, and what is wrong there.
 #![tactic(auto)]
 
-ghost use Rattle.std.specs.Prelude.{◌≡◌};
+ghost use Rattle.std.specs.Prelude.{◌≡◌, None};
+ghost use Rattle.wrong_lines.specs.declared.Wrong.TheVariants.{NoPosted};
 
 use std::fmt;
 use text_days::{Day, Stage};
@@ -70,7 +71,8 @@ impl<W: fmt::Display> fmt::Display for WrongLine<W> {
 // The line of a day that is wrong, in a month and after so many days: what is wrong in the day, or if nothing is, that it ends without
 // its posted line.
 pub fn in_month(day: &Day, wrong: Option<text_days::Wrong>, days: usize) -> WrongLine<Wrong>
-    ensures { result.line ≡ day.now.place.line }
+    ensures line { result.line ≡ day.now.place.line }
+    ensures unposted { wrong ≡ None → result.wrong ≡ NoPosted }
 {
     let new = day.stage == Stage::Free && days > 0;
     let wrong = match wrong {

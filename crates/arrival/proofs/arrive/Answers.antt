@@ -3,7 +3,6 @@
 use lib.Seq.{length-take-le}
 use Rattle.schedule.specs.Columns.{columns}
 use Rattle.arrival.proofs.Arrived.{arrived_small, arrived_plan}
-use Prim.Native.Nat.{◌-◌}
 use mathlib.Core.Path.{sym}
 use native.Mathlib.Omega.{arith}
 use Rattle.arrival.proofs.arrive.Goals as goal

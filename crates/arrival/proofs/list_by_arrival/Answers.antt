@@ -4,7 +4,7 @@ use lib.ListN.{replicate, length-replicate}
 use Rattle.schedule.specs.Limits.{most_rows}
 use Rattle.schedule.specs.Columns.{columns}
 use Rattle.arrival.proofs.Arrived.{one_plan}
-use Prim.Native.Nat.{ℕ, ◌-◌}
+use Prim.Native.Nat.{ℕ}
 use Rattle.arrival.proofs.list_by_arrival.Goals as goal
 
 pub returns : goal.returns

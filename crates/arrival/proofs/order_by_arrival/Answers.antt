@@ -2,7 +2,10 @@
 -- Assumes nothing.
 use Rattle.schedule.specs.Columns.{columns}
 use Rattle.arrival.proofs.Arrived.{arrival_unkept, arrival_given}
-use Prim.Native.Nat.{◌-◌}
+use Prim.Native.Nat.{ℕ}
+use mathlib.Core.Path.{ap}
+use mathlib.Core.List.{List, ◌++◌}
+use lib.ListN.{drop}
 use Rattle.arrival.proofs.order_by_arrival.Goals as goal
 
 pub returns-then-bound-desk : goal.returns-then-bound-desk
@@ -12,10 +15,6 @@ returns-then-bound-desk c =
     arrival_unkept job a.n a.free c.requires.le_n.0 c.arrive-plan.result
     c.arrive-plan.ensures c.requires.limits a.bound a.out.now c.if-bound-desk.true
 
-pub write_rows-requires : goal.write_rows-requires
-write_rows-requires c =
-    (c.requires.le_n.1, c.requires.le_n.3, c.arrive-plan.ensures.places)
-
 pub returns : goal.returns
 returns c =
     let a = c.args in
@@ -23,4 +22,5 @@ returns c =
     arrival_given job a.n a.free c.requires.le_n.0
     c.arrive-plan.result
     c.arrive-plan.ensures c.requires.limits a.bound a.out.now
-    c.if-bound-desk.false _ c.write_rows.ensures
+    c.if-bound-desk.false _
+    (ap (λ (x : List ℕ). x ++ drop a.n a.out.now) c.copy_from_slice.ensures.after)

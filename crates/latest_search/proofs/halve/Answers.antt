@@ -2,9 +2,8 @@
 -- measure is how often what lies between can be halved: 24 times at most.
 -- Assumes nothing.
 use borrow.Author.Rules.{rules}
-use Prim.Native.Nat.{◌-◌}
 use native.Mathlib.Omega.{arith}
-use mathlib.Core.Path.{◌≡◌, refl}
+use mathlib.Core.Path.{refl}
 use Rattle.latest_search.proofs.Found.{not_in_time, reached_at, between_first, between_later, between_sooner}
 use Rattle.latest_search.proofs.Found.{halved_found, halved_never, middle_between, upper_half, lower_half}
 use Rattle.latest_search.proofs.halve.Goals as goal
@@ -29,23 +28,9 @@ pub plan_for-s-requires : goal.plan_for-s-requires
 plan_for-s-requires c =
     let l = c.loop-low.invariant in record { limits = c.requires.limits; tables = c.requires.tables; le_n = (c.requires.le_n, omega (arith, c.requires.tables.few, l.0.high_within), l.1) }
 
-pub loop-low-smaller-then-not-keeps_both-2 : goal.loop-low-smaller-then-not-keeps_both-2
-loop-low-smaller-then-not-keeps_both-2 c =
-    lower_half _ _ c.loop-low-test.true c.loop-low.invariant.0.high_within
-
-pub loop-low-preserved-then-not-keeps_both-2 : goal.loop-low-preserved-then-not-keeps_both-2
-loop-low-preserved-then-not-keeps_both-2 c =
-    let limits = c.requires.limits in
-    let l = c.loop-low in
-    let m = middle_between l.low l.high c.loop-low-test.true in
-    let s = c.plan_for-s.ensures in
-    let test = c.keeps_both-in-loop-low.ensures in
-    let late = not_in_time _ limits _ _ _ _ _ _ s _ test (c.if-not-keeps_both-2.true) in
-    (between_sooner _ limits _ _ _ _ _ _ _ _ l.invariant.0 m.0 m.1 late, s.places)
-
 pub loop-low-smaller : goal.loop-low-smaller
 loop-low-smaller c =
-    upper_half _ _ c.loop-low-test.true c.loop-low.invariant.0.high_within
+    lower_half _ _ c.loop-low-test.true c.loop-low.invariant.0.high_within
 
 pub loop-low-preserved : goal.loop-low-preserved
 loop-low-preserved c =
@@ -54,7 +39,21 @@ loop-low-preserved c =
     let m = middle_between l.low l.high c.loop-low-test.true in
     let s = c.plan_for-s.ensures in
     let test = c.keeps_both-in-loop-low.ensures in
-    let reached = reached_at _ limits _ _ _ _ _ _ s _ test (c.if-not-keeps_both-2.false) in
+    let late = not_in_time _ limits _ _ _ _ _ _ s _ test (c.if-keeps_both.false) in
+    (between_sooner _ limits _ _ _ _ _ _ _ _ l.invariant.0 m.0 m.1 late, s.places)
+
+pub loop-low-smaller-then-keeps_both : goal.loop-low-smaller-then-keeps_both
+loop-low-smaller-then-keeps_both c =
+    upper_half _ _ c.loop-low-test.true c.loop-low.invariant.0.high_within
+
+pub loop-low-preserved-then-keeps_both : goal.loop-low-preserved-then-keeps_both
+loop-low-preserved-then-keeps_both c =
+    let limits = c.requires.limits in
+    let l = c.loop-low in
+    let m = middle_between l.low l.high c.loop-low-test.true in
+    let s = c.plan_for-s.ensures in
+    let test = c.keeps_both-in-loop-low.ensures in
+    let reached = reached_at _ limits _ _ _ _ _ _ s _ test (c.if-keeps_both.true) in
     (between_later _ limits _ _ _ _ _ _ _ _ _ _ l.invariant.0 m.1 reached, s.places)
 
 pub returns : goal.returns

@@ -4,9 +4,6 @@ use mathlib.Core.Path.{sym, ◌∙◌}
 use Rattle.pairs.proofs.Columns.{none_clashes}
 use Rattle.pairs.proofs.pair_tests.Goals as goal
 
-pub returns-then-any_clash : goal.returns-then-any_clash
-returns-then-any_clash c = c.earliest_clash.ensures
-
 pub returns-else-any_clash : goal.returns-else-any_clash
 returns-else-any_clash c =
     let a = c.args in

@@ -22,13 +22,13 @@ returns-in-FirstCome c =
 pub list_by_rank-requires : goal.list_by_rank-requires
 list_by_rank-requires c =
     let a = c.args in
-    let job = columns a.release.now a.minutes.now a.due.now in record { limits = c.requires.limits; le_n = (c.requires.le_n.0, c.requires.le_n.1, c.requires.le_n.2, subst (λ (p : Profile). Obeys p job (count_from 1 a.n)) c.in_default.is c.requires.le_n.3) }
+    let job = columns a.release.now a.minutes.now a.due.now in record { limits = c.requires.limits; le_n = (c.requires.le_n.0, c.requires.le_n.1, c.requires.le_n.2, subst (λ (p : Profile). Obeys p job (count_from 1 a.n)) c.in-Ordering.is c.requires.le_n.3) }
 
-pub returns : goal.returns
+pub returns-in-Ordering : goal.returns-in-Ordering
 unfolding plans_by
-returns c =
+returns-in-Ordering c =
     let a = c.args in
     let job = columns a.release.now a.minutes.now a.due.now in
     subst (λ (p : Profile). HoldsPlans (plans_by p job a.free (count_from 1 a.n)) a.n c.list_by_rank.result)
-    (sym c.in_default.is)
+    (sym c.in-Ordering.is)
     c.list_by_rank.ensures

@@ -5,7 +5,6 @@ use Rattle.schedule.specs.Rows.{count_from}
 use Rattle.schedule.specs.Profiles.{order_by}
 use Rattle.schedule.specs.Columns.{columns}
 use Rattle.plans.proofs.Profiles.{given_by}
-use Prim.Native.Nat.{◌-◌}
 use Rattle.plans.proofs.order_for.Goals as goal
 
 pub returns-in-FirstCome : goal.returns-in-FirstCome
@@ -16,10 +15,10 @@ returns-in-FirstCome c =
     given_by job a.free (count_from 1 a.n) a.bound a.profile FirstCome
     c.in-FirstCome.is _ _ _ c.order_by_arrival.ensures
 
-pub returns : goal.returns
+pub returns-in-Ordering : goal.returns-in-Ordering
 unfolding order_by
-returns c =
+returns-in-Ordering c =
     let a = c.args in
     let job = columns a.release.now a.minutes.now a.due.now in
     given_by job a.free (count_from 1 a.n) a.bound a.profile Ordering
-    c.in_default.is _ _ _ c.order_by_rank.ensures
+    c.in-Ordering.is _ _ _ c.order_by_rank.ensures

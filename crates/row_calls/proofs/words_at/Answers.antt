@@ -1,19 +1,10 @@
 -- `words_at` meets its contract: the four words at the place, or no word.
 -- Assumes nothing.
-use Prim.Native.Nat.{◌+◌, ◌-◌, ◌≤◌}
+use Prim.Native.Nat.{◌+◌, ◌-◌}
 use native.Mathlib.Omega.{arith}
 use mathlib.Core.Path.{◌≡◌}
 use Rattle.row_calls.proofs.Places.{words_found, words_refused}
 use Rattle.row_calls.proofs.words_at.Goals as goal
-
-pub overflow_add-end : goal.overflow_add-end
-overflow_add-end c = omega (arith, (c.requires c.in-Ok.start c.in-Ok.is))
-
-pub offset_bounds-book-start : goal.offset_bounds-book-start
-offset_bounds-book-start c = omega (arith, (c.requires c.in-Ok.start c.in-Ok.is))
-
-pub slice_bounds-result-end : goal.slice_bounds-result-end
-slice_bounds-result-end c = omega (arith, (c.requires c.in-Ok.start c.in-Ok.is))
 
 pub returns-in-Ok : goal.returns-in-Ok
 returns-in-Ok c =
