@@ -82,10 +82,7 @@ fn can_plan<'a>(
     ensures { FitTested minute (columns release.now minutes.now due.now) count result }
 {
     let rule = readers::rule_tests(Profile::Ordering, release, minutes, due, count);
-    match rule {
-        Ok(()) => minute + LONGEST_TIME * (count as u32) <= LATEST_END,
-        Err(_) => false,
-    }
+    rule.is_ok() && minute + LONGEST_TIME * (count as u32) <= LATEST_END
 }
 
 // A look at lent words: the rows left, where the words hold a desk whose rows left can be planned.
