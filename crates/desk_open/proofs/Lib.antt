@@ -1,3 +1,3 @@
 pub mod Puts
-pub mod Opened
+pub mod OpenedWords
 pub mod OpenCall

@@ -7,13 +7,15 @@ use mathlib.Core.List.{List, [], ◌∷◌, map}
 use lib.ListN.{length, take, drop, replicate, length-map, length-drop}
 use lib.Seq.{ext_get_or, length-take-le, get_or-take, get_or-drop}
 use borrow.Author.Tests.{lt-ltb, le-ltb}
+use Rattle.std.specs.Prelude.{Result, Ok, Err}
 use Rattle.schedule.specs.Limits.{most_rows, row_places}
 use Rattle.schedule.specs.declared.Row.{Row}
 use Rattle.schedule.specs.Rows.{no_row, row, job, Day, with_opening, jobs}
 use Rattle.schedule.specs.Columns.{at, columns}
 use Rattle.schedule.proofs.Filling.{mapped_at}
-use Rattle.refusals.specs.declared.Tested.TheVariants.{Passed}
+use Rattle.refusals.specs.declared.Refusal.{Refusal}
 use Rattle.refusals.specs.Refusals.{by_narrow}
+use Rattle.refusals.specs.Tests.{refusal_at}
 use Rattle.book.specs.Rows.{refused, accepted}
 use Rattle.rows.specs.InColumns.{jobs_of}
 use Rattle.rows.proofs.Laid.{release_of, due_of}
@@ -24,25 +26,24 @@ use Rattle.readers.proofs.Readings.{Passes, given_passed}
 use Rattle.results.specs.Results.{written}
 use Rattle.outcomes.specs.Planning.{gives}
 use Rattle.running.specs.Words.{desk_words, releases, times, dues, pages, put}
-use Rattle.desk_open.specs.declared.OpenAnswer.TheVariants as open-answer
 use Rattle.desk_open.specs.Opens.{opened_words, open_call}
 use Rattle.desk_open.proofs.Puts.{put_written}
-use Rattle.desk_open.proofs.Opened.{time_of, pages_of_row, with_head, with_pages, with_dues, with_times, pages_room, dues_room}
-use Rattle.desk_open.proofs.Opened.{times_room, releases_room}
+use Rattle.desk_open.proofs.OpenedWords.{time_of, pages_of_row, with_head, with_pages, with_dues, with_times, pages_room, dues_room}
+use Rattle.desk_open.proofs.OpenedWords.{times_room, releases_room}
 
 -- By what the reader gives: a refused book; a run that is too short; a desk.
 module _ (opening : ℕ) (book ws : List ℕ) where
-  pub open_no : (n p : ℕ) → read_by (ordering_rule opening) book ≡ refused n p → open_call opening book ws ≡ gives (open-answer.Refused n p) ws
+  pub open_no : (n p : ℕ) → read_by (ordering_rule opening) book ≡ refused n p → open_call opening book ws ≡ gives (Err (refusal_at n p)) ws
   unfolding open_call
   open_no n p e = rw (e, open_call)
 
   module _ (day : Day) (e : read_by (ordering_rule opening) book ≡ accepted day) where
-    pub open_short : length ws < desk_words → open_call opening book ws ≡ gives (open-answer.Refused by_narrow 0) ws
+    pub open_short : length ws < desk_words → open_call opening book ws ≡ gives (Err (refusal_at by_narrow 0)) ws
     unfolding open_call
     open_short h = rw (e, open_call, lt-ltb (length ws) desk_words h)
 
     pub open_yes : desk_words ≤ length ws →
-        open_call opening book ws ≡ gives (open-answer.Opened (length day.rows) day.free) (written (opened_words opening day) ws)
+        open_call opening book ws ≡ gives (Ok (record { rows = length day.rows; minute = day.free })) (written (opened_words opening day) ws)
     unfolding open_call
     open_yes h = rw (e, open_call, le-ltb (length ws) desk_words h)
 
@@ -93,29 +94,29 @@ module _ (opening : ℕ) (day : Day) (few : length day.rows ≤ most_rows) (ws :
       (releases_room opening day few) timed released c e
 
 -- What the reader gave of an accepted book.
-module _ (opening : ℕ) (book : List ℕ) (r : Given) (g : Gives opening (read_by (ordering_rule opening) book) r)
-    (e : r.outcome ≡ Passed) where
-  d : Passes opening (read_by (ordering_rule opening) book) r
-  d = given_passed (read_by (ordering_rule opening) book) r g e
+module _ (opening : ℕ) (book : List ℕ) (r : Result Given Refusal) (given : Given)
+    (g : Gives opening (read_by (ordering_rule opening) book) r) (e : r ≡ Ok given) where
+  d : Passes opening (read_by (ordering_rule opening) book) given
+  d = given_passed opening (read_by (ordering_rule opening) book) r given g e
 
-  pub given_sizes : (r.count ≤ most_rows) × (length r.columns.release ≡ row_places) ×
-      (length r.columns.length ≡ row_places) × (length r.columns.due ≡ row_places) × (length r.columns.pages ≡ row_places)
+  pub given_sizes : (given.count ≤ most_rows) × (length given.columns.release ≡ row_places) ×
+      (length given.columns.length ≡ row_places) × (length given.columns.due ≡ row_places) × (length given.columns.pages ≡ row_places)
   given_sizes =
       let few = (accepted_day (ordering_rule opening) book d.day d.contents).few_rows in
       (omega (arith, d.count), d.columns.releases, d.columns.lengths, d.columns.dues, d.pages.0)
 
-  pub open_narrow : (ws : List ℕ) → length ws < desk_words → gives (open-answer.Refused by_narrow 0) ws ≡ open_call opening book ws
+  pub open_narrow : (ws : List ℕ) → length ws < desk_words → gives (Err (refusal_at by_narrow 0)) ws ≡ open_call opening book ws
   open_narrow ws h = sym (open_short opening book ws d.day d.contents h)
 
   pub open_done : (ws : List ℕ) → desk_words ≤ length ws → (new : List ℕ) →
-      ((rows : List Row) → length rows ≡ r.count →
-      ((i : ℕ) → 1 ≤ i → i ≤ r.count → jobs_of r.columns i ≡ with_opening opening (job rows i)) →
-      ((i : ℕ) → 1 ≤ i → i ≤ r.count → at r.columns.pages i ≡ (row rows i).pages) →
-      new ≡ written (opened_words opening (record { free = r.free; rows = rows })) ws) →
-      gives (open-answer.Opened r.count r.free) new ≡ open_call opening book ws
+      ((rows : List Row) → length rows ≡ given.count →
+      ((i : ℕ) → 1 ≤ i → i ≤ given.count → jobs_of given.columns i ≡ with_opening opening (job rows i)) →
+      ((i : ℕ) → 1 ≤ i → i ≤ given.count → at given.columns.pages i ≡ (row rows i).pages) →
+      new ≡ written (opened_words opening (record { free = given.free; rows = rows })) ws) →
+      gives (Ok (record { rows = given.count; minute = given.free })) new ≡ open_call opening book ws
   open_done ws wide new puts =
       let words = puts d.day.rows (sym d.count) (λ i h k. d.columns.jobs i h (omega (arith, d.count)))
       (λ i h k. d.pages.1 i) ∙
       ap (λ (t : ℕ). written (opened_words opening (record { free = t; rows = d.day.rows })) ws) d.free in
-      (λ x. gives (open-answer.Opened (d.count x) (d.free x)) (words x)) ∙
+      (λ x. gives (Ok (record { rows = d.count x; minute = d.free x })) (words x)) ∙
       sym (open_yes opening book ws d.day d.contents wide)

@@ -12,15 +12,15 @@ ghost use Rattle.outcomes.specs.Planning.{gives};
 ghost use Rattle.desk_open.specs.Opens.{opened_words, open_call};
 
 use readers::Terms;
-use refusals::Tested;
+use refusals::Refusal;
 use running::Layout;
 use schedule::{Desk, Profile};
 
-// The answer where a desk is to be opened: the count of rows, and the desk's minute.
+// A desk that was opened: the count of its rows, and its minute.
 #[derive(Clone, Copy)]
-pub enum OpenAnswer {
-    Opened(usize, u32),
-    Refused(u32, usize),
+pub struct Opened {
+    pub rows: usize,
+    pub minute: u32,
 }
 
 // The head of a desk that is opened, and no number yet in any other word.
@@ -63,19 +63,19 @@ fn put_day<'a>(
 }
 
 // Opens a desk with a book.
-pub fn open(opening: u32, book: &[u32], desk: &mut [u32]) -> OpenAnswer
+pub fn open(opening: u32, book: &[u32], desk: &mut [u32]) -> Result<Opened, Refusal>
     ensures { gives result desk.new ≡ open_call opening book.now desk.old }
 {
     let terms = Terms {
         profile: Profile::Ordering,
         opening,
     };
-    let given = readers::read(terms, book);
-    if let Tested::Refused(number, place) = given.outcome {
-        return OpenAnswer::Refused(number, place);
-    }
+    let given = readers::read(terms, book)?;
     if desk.len() < Layout::WORDS {
-        return OpenAnswer::Refused(Tested::NARROW, 0);
+        return Err(Refusal {
+            number: Refusal::NARROW,
+            place: 0,
+        });
     }
     let count = given.count;
     put_day(
@@ -88,5 +88,8 @@ pub fn open(opening: u32, book: &[u32], desk: &mut [u32]) -> OpenAnswer
         &given.columns.pages,
         count,
     );
-    OpenAnswer::Opened(count, given.free)
+    Ok(Opened {
+        rows: count,
+        minute: given.free,
+    })
 }

@@ -7,13 +7,13 @@ use mathlib.Core.Bool.{Bool, cond}
 use mathlib.Core.Path.{◌≡◌, sym, ap, ◌∙◌, subst}
 use mathlib.Core.List.{Memᴰ}
 use lib.ListN.{length}
+use Rattle.std.specs.Prelude.{Ok}
 use Rattle.theory.specs.Jobs.{Job}
 use Rattle.schedule.specs.declared.Profile.TheVariants.{Ordering}
 use Rattle.schedule.specs.Rows.{with_opening}
 use Rattle.schedule.specs.Cover.{Agreeing}
 use Rattle.schedule.proofs.Opening.{opening_laws}
 use Rattle.schedule.proofs.Stands.{mem_stands}
-use Rattle.refusals.specs.declared.Tested.TheVariants.{Passed}
 use Rattle.pairs.proofs.Clashes.{passed_none, none_passes}
 use Rattle.readers.specs.Rules.{number_by, rule_tests}
 use Rattle.readers.proofs.Rules.{clash_mutual, obeys, none_clashes}
@@ -37,7 +37,7 @@ module _ (d : Running) (pace : ℕ) where
         seen_at i r.0 r.1 ∙
         ap (λ (b : Bool). cond b (with_opening d.opening (job_by_pace d pace i)) (job_in d.rows i)) (mem_stands i d.left m)
 
-    pub repaced_agree : rule_tests Ordering (left_by_pace d pace) ≡ Passed → Agreeing (job_in (repaced d pace).rows) d.left
+    pub repaced_agree : rule_tests Ordering (left_by_pace d pace) ≡ Ok tt → Agreeing (job_in (repaced d pace).rows) d.left
     repaced_agree e i j m n =
         let none = passed_none (clash_mutual Ordering) (number_by Ordering) (left_by_pace d pace) e in
         let own = (plain_agrees (job_by_pace d pace) d.left).0 (obeys Ordering (left_by_pace d pace) none) in
@@ -47,7 +47,7 @@ module _ (d : Running) (pace : ℕ) where
 
   -- Rows left that agree, and have their lengths by this pace already, pass its tests.
   pub same_passes : ((i : ℕ) → Memᴰ i d.left → job_in d.rows i ≡ with_opening d.opening (job_by_pace d pace i)) →
-      Agreeing (job_in d.rows) d.left → rule_tests Ordering (left_by_pace d pace) ≡ Passed
+      Agreeing (job_in d.rows) d.left → rule_tests Ordering (left_by_pace d pace) ≡ Ok tt
   same_passes same agree =
       let opened : Agreeing (λ i. with_opening d.opening (job_by_pace d pace i)) d.left =
       λ i j m n. subst (λ (x : Job). Agree x (with_opening d.opening (job_by_pace d pace j))) (same i m)

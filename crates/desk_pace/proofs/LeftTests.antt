@@ -5,6 +5,7 @@ use native.Mathlib.Omega.{arith}
 use mathlib.Core.Path.{◌≡◌, sym, ap, ◌∙◌}
 use mathlib.Core.List.{List, ◌∷◌}
 use lib.ListN.{length, get_or}
+use Rattle.std.specs.Prelude.{Ok, Err}
 use Rattle.theory.specs.Jobs.{Job}
 use Rattle.schedule.specs.Limits.{most_rows, row_places, latest_minute, longest_time, latest_due, most_pages, least_pace, most_pace}
 use Rattle.schedule.specs.declared.Profile.TheVariants.{Ordering}
@@ -12,8 +13,8 @@ use Rattle.schedule.specs.Rows.{job}
 use Rattle.schedule.specs.Columns.{at, columns}
 use Rattle.schedule.specs.Filled.{Filled, from}
 use Rattle.schedule.proofs.Filling.{counted_from_one}
-use Rattle.refusals.specs.declared.Tested.{Tested}
-use Rattle.refusals.specs.declared.Tested.TheVariants.{Passed, Refused}
+use Rattle.refusals.specs.declared.Refusal.{Refusal}
+use Rattle.refusals.specs.Tests.{Tested, refusal_at}
 use Rattle.refusals.proofs.Tests.{never}
 use Rattle.pairs.specs.Pairs.{number_word}
 use Rattle.pairs.specs.Clashes.{PairsSettled, unclashing, clashing}
@@ -40,31 +41,33 @@ pub record TellsRow (n p : ℕ) : Type 0 where
   pub high : row ≤ n
   pub told : p ≡ number_word row
 
-pub tells_row : (d : Running) (pace : ℕ) (n p : ℕ) → rule_tests Ordering (left_by_pace d pace) ≡ Refused n p → TellsRow (length d.left) p
-tells_row d pace n p e =
+pub tells_row : (d : Running) (pace : ℕ) (refusal : Refusal) → rule_tests Ordering (left_by_pace d pace) ≡ Err refusal →
+    TellsRow (length d.left) refusal.place
+tells_row d pace refusal e =
     go (rule_tests Ordering (left_by_pace d pace)) (pairs_settled (clash_by Ordering) (clash_mutual Ordering) (number_by Ordering) (left_by_pace
     d pace)) e
   where
-    go : (o : Tested) → PairsSettled (clash_by Ordering) (number_by Ordering) (left_by_pace d pace) o → o ≡ Refused n p →
-        TellsRow (length d.left) p
+    go : (o : Tested) → PairsSettled (clash_by Ordering) (number_by Ordering) (left_by_pace d pace) o → o ≡ Err refusal →
+        TellsRow (length d.left) refusal.place
     go _ (unclashing h) f = never (cc)
     go _ (clashing j k c) f = record {
       row = k;
       low = omega (arith, c.above);
       high = omega (arith, c.above, plain_size (job_by_pace d pace) d.left);
-      told = cc;
+      told = let same : refusal_at (number_by Ordering) (number_word k) ≡ refusal = cc in sym (ap (λ (r : Refusal). r.place) same);
     }
 
 -- The tests of the rows left: none is refused, or the refusal is told at the row's own number word.
 module _ (d : Running) (pace : ℕ) where
-  pub back_passed : rule_tests Ordering (left_by_pace d pace) ≡ Passed → placed_back d.left (rule_tests Ordering (left_by_pace d pace)) ≡ Passed
+  pub back_passed : rule_tests Ordering (left_by_pace d pace) ≡ Ok tt → placed_back d.left (rule_tests Ordering (left_by_pace d pace)) ≡ Ok tt
   unfolding placed_back
   back_passed e = rw e
 
-  pub back_refused : (n p : ℕ) → rule_tests Ordering (left_by_pace d pace) ≡ Refused n p →
-      placed_back d.left (rule_tests Ordering (left_by_pace d pace)) ≡ Refused n (number_word (get_or (0 ∷ d.left) ((p + 2) / 4) 0))
+  pub back_refused : (refusal : Refusal) → rule_tests Ordering (left_by_pace d pace) ≡ Err refusal →
+      placed_back d.left (rule_tests Ordering (left_by_pace d pace)) ≡
+      Err (refusal_at refusal.number (number_word (get_or (0 ∷ d.left) ((refusal.place + 2) / 4) 0)))
   unfolding placed_back
-  back_refused n p e = rw e
+  back_refused refusal e = rw e
 
 -- The numbers of the rows left, and the columns by them.
 module _ (ws : List ℕ) (keeps : KeepsPages ws) (pace : ℕ) (paced : (least_pace ≤ pace) × (pace ≤ most_pace)) {n : ℕ} {rows : List ℕ}

@@ -2,17 +2,15 @@
 -- after it, and the whole outcome of the call. A run that holds no desk with its pages is refused 3 at 0.
 -- Rests on: the running desk and its words, the rows left, the length of a row (row_reader), the rule of rows (readers), what a call gives
 -- (outcomes).
-use Rattle.std.specs.Prelude.{ℕ, ◌+◌, ◌/◌, true, false, not, cond, List, ◌∷◌, map, eqb, length, get_or}
+use Rattle.std.specs.Prelude.{ℕ, ◌+◌, ◌/◌, true, false, not, cond, List, ◌∷◌, map, eqb, length, get_or, Ok, Err}
 use Rattle.theory.specs.Jobs.{Job}
 use Rattle.schedule.specs.Limits.{least_pace, most_pace}
 use Rattle.schedule.specs.declared.Row.{Row}
 use Rattle.schedule.specs.declared.Profile.TheVariants.{Ordering}
 use Rattle.schedule.specs.Rows.{with_opening, count_from, stands}
 use Rattle.schedule.specs.Columns.{at}
-use Rattle.refusals.specs.declared.Tested.{Tested}
-use Rattle.refusals.specs.declared.Tested.TheVariants as tested
+use Rattle.refusals.specs.Tests.{Tested, refusal_at, refuse_if, ◌then◌}
 use Rattle.refusals.specs.Refusals.{by_range}
-use Rattle.refusals.specs.Tests.{refuse_if, ◌then◌}
 use Rattle.pairs.specs.Pairs.{number_word}
 use Rattle.row_reader.specs.NearestMinute.{length_of}
 use Rattle.readers.specs.Rules.{rule_tests}
@@ -20,8 +18,10 @@ use Rattle.outcomes.specs.Planning.{Outcome, gives}
 use Rattle.running.specs.Running.{Running, job_in, pages_in, between}
 use Rattle.running.specs.Words.{count_in, opening_in, times, marks, pages, running, keeps_pages, put}
 use Rattle.rows_left.specs.Left.{plain_rows}
-use Rattle.desk_pace.specs.declared.PaceAnswer.{PaceAnswer}
-use Rattle.desk_pace.specs.declared.PaceAnswer.TheVariants as pace-answer
+
+-- The answer to a change of pace: the desk goes on under it, or the refusal.
+abbrev pub PaceAnswer : Type 0
+PaceAnswer = Tested
 
 -- A row as a reader of this pace takes it: its length comes from its pages, to the nearest minute. Its release and due are what they
 -- were: a class due is not worked out again.
@@ -50,8 +50,8 @@ left_by_pace d pace = plain_rows (job_by_pace d pace) d.left
 
 -- A refusal that tells the number word of the k-th of the rows left, told at that row's own number word.
 unfoldable pub placed_back : (left : List ℕ) → Tested → Tested
-placed_back left tested.Passed = tested.Passed
-placed_back left (tested.Refused n p) = tested.Refused n (number_word (get_or (0 ∷ left) ((p + 2) / 4) 0))
+placed_back left (Ok _) = Ok tt
+placed_back left (Err refusal) = Err (refusal_at refusal.number (number_word (get_or (0 ∷ left) ((refusal.place + 2) / 4) 0)))
 
 -- When a change is turned down: a pace outside the limits of a book, 3 at 0; two rows left disagree, 8 at the number word of the earliest
 -- that disagrees with a row left above it.
@@ -71,13 +71,13 @@ repaced_words ws pace = put (times + 1) (map (time_by_pace ws pace) (count_from 
 -- A change on the words of a running desk, and on any words.
 unfoldable pub pace_outcome : List ℕ → Running → (pace : ℕ) → Outcome PaceAnswer
 pace_outcome ws d pace = elim (pace_tests d pace) [
-  | tested.Refused n p ↦ gives (pace-answer.Refused n p) ws
-  | tested.Passed ↦ gives pace-answer.Changed (repaced_words ws pace)
+  | Err refusal ↦ gives (Err refusal) ws
+  | Ok _ ↦ gives (Ok tt) (repaced_words ws pace)
 ]
 
 unfoldable pub pace_call : (desk : List ℕ) → (pace : ℕ) → Outcome PaceAnswer
 pace_call ws pace = elim (keeps_pages ws) [
-  | false ↦ gives (pace-answer.Refused by_range 0) ws
+  | false ↦ gives (Err (refusal_at by_range 0)) ws
   | true ↦ pace_outcome ws (running ws) pace
 ]
 

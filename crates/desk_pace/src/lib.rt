@@ -13,16 +13,9 @@ ghost use Rattle.running.specs.Words.{desk_words, count_in, opening_in, pages, r
 ghost use Rattle.desk_pace.specs.Gathered.{length_left};
 ghost use Rattle.desk_pace.specs.Paces.{left_by_pace, placed_back, time_by_pace, repaced_words, pace_call};
 
-use refusals::Tested;
+use refusals::Refusal;
 use running::Layout;
 use schedule::{Desk, Profile};
-
-// The answer to a change of pace: the desk goes on under it, or the refusal.
-#[derive(Clone, Copy)]
-pub enum PaceAnswer {
-    Changed,
-    Refused(u32, usize),
-}
 
 // The lengths by a pace of the rows of these numbers, from place 1 on.
 fn lengths_left(
@@ -53,7 +46,7 @@ fn own_place(rows: &[u32; Desk::PLACES], place: usize) -> usize
 }
 
 // The test of the rows left, by their new lengths: the reader's, with each refusal told at the row's own number word.
-fn left_tests(desk: &[u32], pace: u32) -> Tested
+fn left_tests(desk: &[u32], pace: u32) -> Result<(), Refusal>
     requires { (keeps_pages desk.now ≡ true) × (least_pace ≤ pace) × (pace ≤ most_pace) }
     ensures { result ≡ placed_back (running desk.now).left
         (rule_tests Ordering (left_by_pace (running desk.now) pace)) }
@@ -68,8 +61,11 @@ fn left_tests(desk: &[u32], pace: u32) -> Tested
     rows_left::column_left(desk, Layout::DUES, &rows, count, &mut due);
     let rule = readers::rule_tests(Profile::Ordering, &release, &minutes, &due, count);
     match rule {
-        Tested::Passed => Tested::Passed,
-        Tested::Refused(number, place) => Tested::Refused(number, own_place(&rows, place)),
+        Ok(()) => Ok(()),
+        Err(refusal) => Err(Refusal {
+            place: own_place(&rows, refusal.place),
+            ..refusal
+        }),
     }
 }
 
@@ -105,18 +101,22 @@ fn store(desk: &mut [u32], pace: u32)
 }
 
 // Changes the pace of a desk.
-pub fn change(desk: &mut [u32], pace: u32) -> PaceAnswer
+pub fn change(desk: &mut [u32], pace: u32) -> Result<(), Refusal>
     ensures { gives result desk.new ≡ pace_call desk.old pace }
 {
     if !running::keeps_pages(desk) {
-        return PaceAnswer::Refused(Tested::RANGE, 0);
+        return Err(Refusal {
+            number: Refusal::RANGE,
+            place: 0,
+        });
     }
     if !(Desk::LEAST_PACE..=Desk::MOST_PACE).contains(&pace) {
-        return PaceAnswer::Refused(Tested::RANGE, 0);
+        return Err(Refusal {
+            number: Refusal::RANGE,
+            place: 0,
+        });
     }
-    if let Tested::Refused(number, place) = left_tests(desk, pace) {
-        return PaceAnswer::Refused(number, place);
-    }
+    left_tests(desk, pace)?;
     store(desk, pace);
-    PaceAnswer::Changed
+    Ok(())
 }

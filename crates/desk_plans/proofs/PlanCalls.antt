@@ -5,10 +5,10 @@ use mathlib.Core.Bool.{true, false}
 use mathlib.Core.Path.{◌≡◌, refl, ap, ◌∙◌}
 use mathlib.Core.List.{List, []}
 use mathlib.Core.Option.{none}
+use Rattle.std.specs.Prelude.{Err}
 use Rattle.schedule.specs.Desk.{Pair}
 use Rattle.refusals.specs.Refusals.{by_range}
-use Rattle.outcomes.specs.declared.ListAnswer.TheVariants as list-answer
-use Rattle.outcomes.specs.declared.OrderAnswer.TheVariants as order-answer
+use Rattle.refusals.specs.Tests.{refusal_at}
 use Rattle.outcomes.specs.Outcomes.{list_outcome, plan_outcome}
 use Rattle.outcomes.specs.Planning.{gives, nth}
 use Rattle.running.specs.Running.{Running, job_in}
@@ -17,7 +17,7 @@ use Rattle.rows_left.specs.Left.{plans_here}
 use Rattle.desk_plans.specs.Plans.{plans_from, planning_left, desk_list_call, desk_plan_call}
 
 module _ (ws b : List ℕ) where
-  pub list_away : plans_here ws ≡ false → desk_list_call ws b ≡ gives (list-answer.Refused by_range 0) b
+  pub list_away : plans_here ws ≡ false → desk_list_call ws b ≡ gives (Err (refusal_at by_range 0)) b
   unfolding desk_list_call
   list_away e = rw (e, desk_list_call)
 
@@ -25,7 +25,7 @@ module _ (ws b : List ℕ) where
   unfolding desk_list_call
   list_here e = rw (e, desk_list_call)
 
-  pub plan_away : (k : ℕ) → plans_here ws ≡ false → desk_plan_call ws k b ≡ gives (order-answer.Refused by_range 0) b
+  pub plan_away : (k : ℕ) → plans_here ws ≡ false → desk_plan_call ws k b ≡ gives (Err (refusal_at by_range 0)) b
   unfolding desk_plan_call
   plan_away k e = rw (e, desk_plan_call)
 

@@ -3,13 +3,15 @@
 use Prim.Native.Nat.{ℕ, ◌*◌, ◌≤◌, ◌<◌}
 use native.Mathlib.Omega.{arith}
 use native.Mathlib.Decide.{dec_le}
-use mathlib.Core.Bool.{true}
+use mathlib.Core.Bool.{true, false}
 use mathlib.Core.Path.{◌≡◌, refl, sym, ap, ◌∙◌, subst}
 use mathlib.Core.List.{List, [], ◌∷◌, map, Memᴰ}
 use mathlib.Core.Option
 use mathlib.Core.Option.{Option, none, some}
 use lib.ListN.{length, drop, length-append, length-drop, get_or-append}
 use lib.IntN.{ℤ}
+use Rattle.std.specs.Prelude as prelude
+use Rattle.std.specs.Prelude.{Some, None, Ok, Err}
 use Rattle.theory.specs.Jobs.{Job}
 use Rattle.schedule.specs.Limits.{most_rows}
 use Rattle.schedule.specs.declared.Profile.TheVariants.{Ordering}
@@ -22,11 +24,9 @@ use Rattle.schedule.proofs.Numbers.{length_count, count_range}
 use Rattle.schedule.proofs.Orders.{perm_all}
 use Rattle.schedule.proofs.Renumbered.{renumbered, agreeing, same_plans, pair_renumbered}
 use Rattle.refusals.specs.Refusals.{by_unlisted}
+use Rattle.refusals.specs.Tests.{refusal_at}
 use Rattle.results.specs.Results.{written, plan_words}
-use Rattle.outcomes.specs.declared.ListAnswer.TheVariants as list-answer
-use Rattle.outcomes.specs.declared.OrderAnswer.{OrderAnswer}
-use Rattle.outcomes.specs.declared.OrderAnswer.TheVariants as order-answer
-use Rattle.outcomes.specs.Outcomes.{list_outcome, order_outcome, plan_outcome}
+use Rattle.outcomes.specs.Outcomes.{OrderAnswer, list_outcome, order_outcome, plan_outcome}
 use Rattle.outcomes.specs.Planning.{Outcome, gives, nth, Planning, planning_in}
 use Rattle.outcomes.specs.Plannable.{Plannable}
 use Rattle.outcomes.proofs.OutcomeLaws.{list_narrow, list_is, plan_is, plan_unlisted, order_narrow, order_some, order_none}
@@ -44,18 +44,21 @@ use Rattle.desk_plans.proofs.RowsPut.{put_to, written_put}
 use Rattle.desk_plans.proofs.Sound.{sound_left}
 use Rattle.desk_plans.proofs.PlanCalls.{list_here, plan_here, no_plans, none_numbered}
 
--- What is known of a look that is ready.
+-- What is known of a look that gives rows left, and of one that gives none.
 pub record Ready (ws : List ℕ) (left : Left) : Type 0 where
   pub here : plans_here ws ≡ true
   pub desk : IsDesk ws
   pub can : can_plan (running ws) ≡ true
   pub rows : Gathered ws left
 
-pub ready : (ws : List ℕ) (left : Left) → Looked ws left → left.ready ≡ true → Ready ws left
-ready ws left l e =
-    let here = sym l.told ∙ e in
-    let h = (plans_here_says ws).0 here in
-    record { here = here; desk = h.0; can = h.1; rows = l.rows e }
+pub ready : (ws : List ℕ) (o : prelude.Option Left) (left : Left) → Looked ws o → o ≡ Some left → Ready ws left
+ready ws o left l e =
+    let looked = subst (Looked ws) e l in
+    let h = (plans_here_says ws).0 looked.0 in
+    record { here = looked.0; desk = h.0; can = h.1; rows = looked.1 }
+
+pub away : (ws : List ℕ) (o : prelude.Option Left) → Looked ws o → o ≡ None → plans_here ws ≡ false
+away ws o l e = subst (Looked ws) e l
 
 module _ (ws : List ℕ) (left : Left) (r : Ready ws left) where
   abbrev desk : Planning
@@ -68,17 +71,17 @@ module _ (ws : List ℕ) (left : Left) (r : Ready ws left) where
       nothing [] h = refl
       nothing (i ∷ is) h = let z : ⊥ = omega arith in absurd z
 
-  pub list_none : left.count ≡ 0 → (b : List ℕ) → gives (list-answer.Plans 0) b ≡ desk_list_call ws b
+  pub list_none : left.count ≡ 0 → (b : List ℕ) → gives (Ok 0) b ≡ desk_list_call ws b
   unfolding written plan_words
   list_none e b =
       let size : length desk.left ≡ 0 = sym r.rows.counted ∙ e in
       sym (list_here ws b r.here ∙ list_is desk b (omega (arith, size)) ∙
-      ap (λ (ps : List Pair). gives (list-answer.Plans (length ps)) (written (plan_words ps) b)) (no_plans (running ws) (no_row e)))
+      ap (λ (ps : List Pair). gives (Ok (length ps)) (written (plan_words ps) b)) (no_plans (running ws) (no_row e)))
 
-  pub plan_none : left.count ≡ 0 → (k : ℕ) (b : List ℕ) → gives (order-answer.Refused by_unlisted 0) b ≡ desk_plan_call ws k b
+  pub plan_none : left.count ≡ 0 → (k : ℕ) (b : List ℕ) → gives (Err (refusal_at by_unlisted 0)) b ≡ desk_plan_call ws k b
   plan_none e k b =
       sym (plan_here ws b k r.here ∙ plan_unlisted desk k b (none_numbered (running ws) (no_row e) k) ∙
-      ap (λ (ps : List Pair). gives (order-answer.Refused by_unlisted (length ps)) b) (no_plans (running ws) (no_row e)))
+      ap (λ (ps : List Pair). gives (Err (refusal_at by_unlisted (length ps))) b) (no_plans (running ws) (no_row e)))
 
   module _ (some_row : 1 ≤ left.count) where
     abbrev n : ℕ
@@ -134,17 +137,17 @@ module _ (ws : List ℕ) (left : Left) (r : Ready ws left) where
         step : Dec (2 * n ≤ length b) → list_outcome columns b ≡ list_outcome desk b
         step (yes h) =
             list_is columns b (omega (arith, sizes)) ∙
-            ap (λ (ps : List Pair). gives (list-answer.Plans (length ps)) (written (plan_words ps) b)) plans_same ∙
+            ap (λ (ps : List Pair). gives (Ok (length ps)) (written (plan_words ps) b)) plans_same ∙
             sym (list_is desk b (omega (arith, sizes)))
         step (no h) = list_narrow columns b (omega (arith, sizes)) ∙ sym (list_narrow desk b (omega (arith, sizes)))
 
     module _ (k : ℕ) (b : List ℕ) where
       -- What the call comes to, from what planning on the columns gives: an order's places are rows still to be put in their stead.
       abbrev pub Comes : OrderAnswer → List ℕ → Type 0
-      Comes (order-answer.Pair e y) after =
+      Comes (Ok pair) after =
           (n ≤ length after) × ((i : ℕ) → i < n → at after i ≤ most_rows) ×
-          (gives (order-answer.Pair e y) (put_to row after n) ≡ desk_plan_call ws k b)
-      Comes (order-answer.Refused m p) after = gives (order-answer.Refused m p) after ≡ desk_plan_call ws k b
+          (gives (Ok pair) (put_to row after n) ≡ desk_plan_call ws k b)
+      Comes (Err refusal) after = gives (Err refusal) after ≡ desk_plan_call ws k b
 
       abbrev ComesOf : Outcome OrderAnswer → Type 0
       ComesOf o = Comes o.answer o.buffer
@@ -166,7 +169,7 @@ module _ (ws : List ℕ) (left : Left) (r : Ready ws left) where
                 get_or-append order (drop (length order) b) 0 i (omega arith),
                 posting_rows plannable order ((posted n order).1 o) i,
               ),
-              (λ x. gives (order-answer.Pair (sym pair x).end (sym pair x).late) (sym put x)) ∙
+              (λ x. gives (Ok (record { end = (sym pair x).end; late = (sym pair x).late })) (sym put x)) ∙
                   sym (order_some desk y b (omega (arith, sizes)) (map row order) (order_there y (some order) e)) ∙ call,
             )
 
@@ -194,7 +197,7 @@ module _ (ws : List ℕ) (left : Left) (r : Ready ws left) where
           step : (o : Option Pair) → nth columns.plans k ≡ o → ComesOf (plan_outcome columns k b)
           step none e =
               subst ComesOf (sym (plan_unlisted columns k b e))
-              (ap (λ (ps : List Pair). gives (order-answer.Refused by_unlisted (length ps)) b) plans_same ∙
+              (ap (λ (ps : List Pair). gives (Err (refusal_at by_unlisted (length ps))) b) plans_same ∙
               sym (plan_unlisted desk k b (there none e)) ∙ sym (plan_here ws b k r.here))
           step (some q) e =
               subst ComesOf (sym (plan_is columns k q b e))

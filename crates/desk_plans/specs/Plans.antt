@@ -1,17 +1,14 @@
 -- The list and the order of a listed plan on a lent desk: the whole outcome of each call. A run that holds no desk whose rows left can be
 -- planned is refused 3 at 0; then 11, 9. Rests on: the running desk and its words, the rows left, what a call gives (outcomes).
-use Rattle.std.specs.Prelude.{ℕ, true, false, List, [], ◌∷◌}
+use Rattle.std.specs.Prelude.{ℕ, true, false, List, [], ◌∷◌, Err}
 use Rattle.theory.specs.Jobs.{Job}
 use Rattle.schedule.specs.Desk.{Pair}
 use Rattle.schedule.specs.Picks.{order_for}
 use Rattle.schedule.specs.Plans.{plans}
 use Rattle.refusals.specs.Refusals.{by_range}
+use Rattle.refusals.specs.Tests.{refusal_at}
 use Rattle.outcomes.specs.Planning.{Outcome, gives, Planning}
-use Rattle.outcomes.specs.Outcomes.{list_outcome, plan_outcome}
-use Rattle.outcomes.specs.declared.ListAnswer.{ListAnswer}
-use Rattle.outcomes.specs.declared.ListAnswer.TheVariants as list-answer
-use Rattle.outcomes.specs.declared.OrderAnswer.{OrderAnswer}
-use Rattle.outcomes.specs.declared.OrderAnswer.TheVariants as order-answer
+use Rattle.outcomes.specs.Outcomes.{list_outcome, plan_outcome, ListAnswer, OrderAnswer}
 use Rattle.running.specs.Running.{Running, job_in}
 use Rattle.running.specs.Words.{running}
 use Rattle.rows_left.specs.Left.{plans_here}
@@ -33,13 +30,13 @@ planning_left d = record {
 
 unfoldable pub desk_list_call : (desk buffer : List ℕ) → Outcome ListAnswer
 desk_list_call ws b = elim (plans_here ws) [
-  | false ↦ gives (list-answer.Refused by_range 0) b
+  | false ↦ gives (Err (refusal_at by_range 0)) b
   | true ↦ list_outcome (planning_left (running ws)) b
 ]
 
 unfoldable pub desk_plan_call : (desk : List ℕ) → (k : ℕ) → (buffer : List ℕ) → Outcome OrderAnswer
 desk_plan_call ws k b = elim (plans_here ws) [
-  | false ↦ gives (order-answer.Refused by_range 0) b
+  | false ↦ gives (Err (refusal_at by_range 0)) b
   | true ↦ plan_outcome (planning_left (running ws)) k b
 ]
 

@@ -7,8 +7,8 @@ ghost use Rattle.schedule.specs.Columns.{at};
 ghost use Rattle.outcomes.specs.Planning.{gives};
 ghost use Rattle.desk_plans.specs.Plans.{desk_list_call, desk_plan_call};
 
-use outcomes::{ListAnswer, OrderAnswer};
-use refusals::Tested;
+use outcomes::Attained;
+use refusals::Refusal;
 use running::Layout;
 use schedule::{Desk, Profile};
 
@@ -24,15 +24,17 @@ fn put_rows(rows: &[u32; Desk::PLACES], n: usize, res: &mut [u32])
 }
 
 // The list of the rows left from the desk's minute on: for each plan two words, end and worst lateness in two's complement, by rising end.
-pub fn list(desk: &[u32], res: &mut [u32]) -> ListAnswer
+pub fn list(desk: &[u32], res: &mut [u32]) -> Result<usize, Refusal>
     ensures { gives result res.new ≡ desk_list_call desk.now res.old }
 {
-    let left = rows_left::look(desk);
-    if !left.ready {
-        return ListAnswer::Refused(Tested::RANGE, 0);
-    }
+    let Some(left) = rows_left::look(desk) else {
+        return Err(Refusal {
+            number: Refusal::RANGE,
+            place: 0,
+        });
+    };
     if left.count == 0 {
-        return ListAnswer::Plans(0);
+        return Ok(0);
     }
     outcomes::list_in(
         Profile::Ordering,
@@ -46,19 +48,24 @@ pub fn list(desk: &[u32], res: &mut [u32]) -> ListAnswer
 }
 
 // The order of a listed plan by its number from 1, as row numbers, with its own end and worst lateness.
-pub fn order_of_plan(desk: &[u32], plan: u32, res: &mut [u32]) -> OrderAnswer
+pub fn order_of_plan(desk: &[u32], plan: u32, res: &mut [u32]) -> Result<Attained, Refusal>
     ensures { gives result res.new ≡ desk_plan_call desk.now plan res.old }
 {
-    let left = rows_left::look(desk);
-    if !left.ready {
-        return OrderAnswer::Refused(Tested::RANGE, 0);
-    }
+    let Some(left) = rows_left::look(desk) else {
+        return Err(Refusal {
+            number: Refusal::RANGE,
+            place: 0,
+        });
+    };
     let n = left.count;
     if n == 0 {
-        return OrderAnswer::Refused(Tested::UNLISTED, 0);
+        return Err(Refusal {
+            number: Refusal::UNLISTED,
+            place: 0,
+        });
     }
     let minute = desk[Layout::MINUTE];
-    let answer = outcomes::plan_in(
+    let attained = outcomes::plan_in(
         Profile::Ordering,
         &left.release,
         &left.minutes,
@@ -67,10 +74,7 @@ pub fn order_of_plan(desk: &[u32], plan: u32, res: &mut [u32]) -> OrderAnswer
         minute,
         plan,
         res,
-    );
-    if let OrderAnswer::Refused(number, place) = answer {
-        return OrderAnswer::Refused(number, place);
-    }
+    )?;
     put_rows(&left.rows, n, res);
-    answer
+    Ok(attained)
 }

@@ -7,26 +7,26 @@ use mathlib.Core.Path.{◌≡◌, sym, ◌∙◌}
 use mathlib.Core.List.{List}
 use lib.Dec.{eqb, ltb}
 use borrow.Author.Tests.{not-false}
+use Rattle.std.specs.Prelude.{Ok, Err}
 use Rattle.theory.specs.Jobs.{finish}
 use Rattle.schedule.specs.Limits.{latest_start}
 use Rattle.schedule.specs.Columns.{at}
 use Rattle.schedule.specs.Offset.{raised, lowered, desk_after}
 use Rattle.schedule.proofs.Tests.{is_true}
-use Rattle.refusals.specs.declared.Tested.TheVariants.{Passed, Refused}
+use Rattle.refusals.specs.declared.Refusal.{Refusal}
 use Rattle.refusals.specs.Refusals.{by_range, by_unlisted, by_done, by_early}
-use Rattle.refusals.specs.Tests.{refuse_if, ◌then◌}
+use Rattle.refusals.specs.Tests.{refuse_if, ◌then◌, refusal_at}
 use Rattle.outcomes.specs.Planning.{gives}
 use Rattle.running.specs.Running.{between, start_tests, end_at, worst_at}
 use Rattle.running.specs.Words.{count_in, minute_in, worst_in, releases, times, dues, marks, running, is_desk, IsDesk, moved_words, job_at}
 use Rattle.running.proofs.Fits.{lies, desk_says, row_held, rows_length}
 use Rattle.running.proofs.Left.{left_stands}
 use Rattle.running.proofs.Moves.{StartFits, end_held, worst_held_lem, worst_raised}
-use Rattle.desk_start.specs.declared.StartAnswer.TheVariants as start-answer
 use Rattle.desk_start.specs.Starts.{start_outcome, start_call}
 
 module _ (ws : List ℕ) (i m : ℕ) where
   -- No such row; and the tests of a row that is one.
-  pub tests_unlisted : not (between 1 (count_in ws) i) ≡ true → Refused by_unlisted (count_in ws) ≡ start_tests (running ws) i m
+  pub tests_unlisted : not (between 1 (count_in ws) i) ≡ true → Err (refusal_at by_unlisted (count_in ws)) ≡ start_tests (running ws) i m
   unfolding start_tests refuse_if ◌then◌
   tests_unlisted h = rw (rows_length ws, h)
 
@@ -42,17 +42,17 @@ module _ (ws : List ℕ) (i m : ℕ) where
         rw (rows_length ws, h, left_stands ws (count_in ws) i l.0 l.1, row_held ws i l.0 l.1)
 
   -- No desk; a start that is turned down; one that is not.
-  pub start_none : is_desk ws ≡ false → start_call ws i m ≡ gives (start-answer.Refused by_range 0) ws
+  pub start_none : is_desk ws ≡ false → start_call ws i m ≡ gives (Err (refusal_at by_range 0)) ws
   unfolding start_call
   start_none e = rw (e, start_call)
 
   module _ (desk : is_desk ws ≡ true) where
-    pub start_no : (n p : ℕ) → start_tests (running ws) i m ≡ Refused n p → start_call ws i m ≡ gives (start-answer.Refused n p) ws
+    pub start_no : (refusal : Refusal) → start_tests (running ws) i m ≡ Err refusal → start_call ws i m ≡ gives (Err refusal) ws
     unfolding start_call start_outcome
-    start_no n p e = rw (desk, start_call, e, start_outcome)
+    start_no refusal e = rw (desk, start_call, e, start_outcome)
 
-    pub start_yes : start_tests (running ws) i m ≡ Passed →
-        start_call ws i m ≡ gives (start-answer.Moved (end_at (running ws) i m) (worst_at (running ws) i m))
+    pub start_yes : start_tests (running ws) i m ≡ Ok tt →
+        start_call ws i m ≡ gives (Ok (record { minute = end_at (running ws) i m; late = worst_at (running ws) i m }))
         (moved_words ws i (end_at (running ws) i m) (raised (worst_at (running ws) i m)))
     unfolding start_call start_outcome
     start_yes e = rw (desk, start_call, e, start_outcome)
@@ -70,9 +70,9 @@ module _ (ws : List ℕ) (i m : ℕ) where
     unfolding finish
     taken f = let ready : max m (at ws (releases + i)) ≡ m = omega (arith, f) in rw ready
 
-    pub start_moved : start_tests (running ws) i m ≡ Passed →
-        gives (start-answer.Moved end (lowered worst)) (moved_words ws i end worst) ≡ start_call ws i m
+    pub start_moved : start_tests (running ws) i m ≡ Ok tt →
+        gives (Ok (record { minute = end; late = lowered worst })) (moved_words ws i end worst) ≡ start_call ws i m
     start_moved e =
         let d : IsDesk ws = (desk_says ws).0 desk in
-        (λ x. gives (start-answer.Moved (end_held ws d i m e x) (worst_held_lem ws d i m e x))
+        (λ x. gives (Ok (record { minute = end_held ws d i m e x; late = worst_held_lem ws d i m e x }))
         (moved_words ws i (end_held ws d i m e x) (worst_raised ws d i m e x))) ∙ sym (start_yes e)

@@ -8,32 +8,36 @@ ghost use Rattle.running.specs.Words.{desk_words, running, is_desk, moved_words}
 ghost use Rattle.outcomes.specs.Planning.{gives};
 ghost use Rattle.desk_start.specs.Starts.{start_call};
 
-use refusals::Tested;
+use refusals::Refusal;
 use running::Layout;
 use schedule::Desk;
 
-// The answer to a start: the desk's new minute and the worst lateness so far.
+// Where the desk stands after a start: its new minute and the worst lateness so far.
 #[derive(Clone, Copy)]
-pub enum StartAnswer {
-    Moved(u32, i32),
-    Refused(u32, usize),
+pub struct Stand {
+    pub minute: u32,
+    pub late: i32,
 }
 
 // Whether a start is turned down: 11, 14, 15.
-fn start_tests(desk: &[u32], row: u32, minute: u32) -> Tested
+fn start_tests(desk: &[u32], row: u32, minute: u32) -> Result<(), Refusal>
     requires { is_desk desk.now ≡ true }
     ensures { result ≡ start_tests (running desk.now) row minute }
 {
     let n = desk[Layout::COUNT];
     if !(1..=n).contains(&row) {
-        return Tested::Refused(Tested::UNLISTED, n as usize);
+        return Err(Refusal {
+            number: Refusal::UNLISTED,
+            place: n as usize,
+        });
     }
     let i = row as usize;
-    let done = refusals::refuse_if(desk[Layout::MARKS + i] != 0, Tested::DONE, i);
+    let done = desk[Layout::MARKS + i] != 0;
     let early = (minute < desk[Layout::MINUTE])
         | (minute < desk[Layout::RELEASES + i])
         | (Layout::LATEST_START < minute);
-    refusals::then(done, refusals::refuse_if(early, Tested::EARLY, 0))
+    refusals::refuse_if(done, Refusal::DONE, i)?;
+    refusals::refuse_if(early, Refusal::EARLY, 0)
 }
 
 // The words of a start that is not turned down.
@@ -47,15 +51,16 @@ fn store(desk: &mut [u32], i: usize, end: u32, worst: u32)
 }
 
 // Starts a row at a minute.
-pub fn start(desk: &mut [u32], row: u32, minute: u32) -> StartAnswer
+pub fn start(desk: &mut [u32], row: u32, minute: u32) -> Result<Stand, Refusal>
     ensures { gives result desk.new ≡ start_call desk.old row minute }
 {
     if !running::is_desk(desk) {
-        return StartAnswer::Refused(Tested::RANGE, 0);
+        return Err(Refusal {
+            number: Refusal::RANGE,
+            place: 0,
+        });
     }
-    if let Tested::Refused(number, place) = start_tests(desk, row, minute) {
-        return StartAnswer::Refused(number, place);
-    }
+    start_tests(desk, row, minute)?;
     let i = row as usize;
     let free = Desk {
         minute,
@@ -67,5 +72,8 @@ pub fn start(desk: &mut [u32], row: u32, minute: u32) -> StartAnswer
         desk[Layout::DUES + i],
     );
     store(desk, i, done.minute, done.worst);
-    StartAnswer::Moved(done.minute, schedule::lower(done.worst))
+    Ok(Stand {
+        minute: done.minute,
+        late: schedule::lower(done.worst),
+    })
 }

@@ -1,6 +1,6 @@
 -- Histories: what a desk holds after calls, one after another.
 -- Assumes nothing.
-use Prim.Native.Nat.{ℕ, suc, ◌+◌, ◌*◌, ◌≤◌, ◌<◌}
+use Prim.Native.Nat.{ℕ, suc, ◌+◌, ◌*◌, ◌≤◌}
 use native.Mathlib.Omega.{arith}
 use mathlib.Core.Bool.{Bool, true, false}
 use mathlib.Core.Path.{◌≡◌, refl, sym, ap, ◌∙◌, subst}
@@ -8,15 +8,16 @@ use mathlib.Core.List.{List, [], ◌∷◌, ◌++◌, map, append-nil, append_as
 use lib.Dec.{eqb}
 use lib.ListN.{length}
 use borrow.Author.Tests.{eqb-false, ne_eqb}
+use Rattle.std.specs.Prelude.{Ok}
 use Rattle.schedule.specs.Limits.{most_rows, latest_end, longest_time, least_pace, most_pace}
 use Rattle.schedule.specs.declared.Profile.TheVariants.{Ordering}
 use Rattle.schedule.specs.Offset.{raised}
-use Rattle.schedule.specs.Rows.{Day, jobs, row_numbers}
+use Rattle.schedule.specs.Rows.{Day, row_numbers}
 use Rattle.schedule.specs.Cover.{Agreeing}
 use Rattle.schedule.proofs.Numbers.{length_count, count_range}
 use Rattle.schedule.proofs.Orders.{length_without, mem_without}
 use Rattle.schedule.proofs.Stands.{stands_mem}
-use Rattle.refusals.specs.declared.Tested.TheVariants as tested
+use Rattle.refusals.specs.Tests.{refusal_at}
 use Rattle.readers.specs.Rules.{rule_tests}
 use Rattle.readers.specs.Reads.{ordering_rule}
 use Rattle.readers.specs.Accepted.{AcceptedDay}
@@ -27,7 +28,7 @@ use Rattle.running.proofs.Starts.{may_start}
 use Rattle.running.proofs.Moves.{moved_held, moved_keeps}
 use Rattle.rows_left.proofs.LeftRows.{left_rising, left_mem}
 use Rattle.desk_start.proofs.StartLaws.{start_no, start_yes}
-use Rattle.desk_pace.specs.Paces.{left_by_pace, pace_tests, repaced, repaced_words}
+use Rattle.desk_pace.specs.Paces.{left_by_pace, repaced, repaced_words}
 use Rattle.desk_pace.proofs.PaceLaws.{pace_no, pace_yes}
 use Rattle.desk_pace.proofs.Repaced.{repaced_held}
 use Rattle.desk_pace.proofs.Agreed.{repaced_agree}
@@ -116,7 +117,7 @@ module _ (opening pace : ℕ) (day : Day) where
       abbrev next : Move
       next = started (record { row = i; minute = m })
 
-      module _ (passed : start_tests (running ws) i m ≡ tested.Passed) where
+      module _ (passed : start_tests (running ws) i m ≡ Ok tt) where
         abbrev new : List ℕ
         new = moved_words ws i (end_at (running ws) i m) (raised (worst_at (running ws) i m))
 
@@ -153,7 +154,7 @@ module _ (opening pace : ℕ) (day : Day) where
 
     -- One change of pace more.
     module _ (p : ℕ) (within : (least_pace ≤ p) × (p ≤ most_pace)) (passed : rule_tests Ordering (left_by_pace (running ws) p) ≡
-        tested.Passed) where
+        Ok tt) where
       over : standing opening pace day (done ++ (changed p ∷ [])) ≡ repaced old p
       over = one_change opening pace day done p
 
@@ -198,7 +199,7 @@ module _ (opening pace : ℕ) (day : Day) where
 
         step : Found (running ws) i m → Taken (starts i m)
         step (refuses n p l t u only) =
-            let e = start_no ws i m desk n p t in
+            let e = start_no ws i m desk (refusal_at n p) t in
             untouched (starts i m) (ap (λ o. o.buffer) e)
             (λ rest. ap (λ o. with_move (said_start o.answer).number (next i m) rest) e ∙
             rw (ne_eqb n 0 (λ z. omega arith)))
@@ -216,7 +217,7 @@ module _ (opening pace : ℕ) (day : Day) where
 
         step : paced.Found (running ws) p → Taken (paces p)
         step (paced.refuses n q l t u only) =
-            let e = pace_no ws p keeps n q t in
+            let e = pace_no ws p keeps (refusal_at n q) t in
             untouched (paces p) (ap (λ o. o.buffer) e)
             (λ rest. ap (λ o. with_move (said_pace o.answer).number (changed p) rest) e ∙ rw (ne_eqb n 0 (λ z. omega arith)))
         step (paced.passes t within r never) =

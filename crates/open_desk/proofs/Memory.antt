@@ -12,6 +12,7 @@ use lib.Seq.{drop-append_seam}
 use Rattle.schedule.specs.Offset.{raised}
 use Rattle.schedule.specs.Rows.{Day}
 use Rattle.refusals.specs.Refusals.{by_narrow, by_range}
+use Rattle.refusals.specs.Tests.{refusal_at}
 use Rattle.book.specs.Rows.{Contents, refused, accepted}
 use Rattle.readers.specs.Reads.{ordering_rule, read_by}
 use Rattle.readers.proofs.Accepted.{accepted_day}
@@ -28,7 +29,7 @@ use Rattle.running.specs.Words.{desk_words, count_in, running, times, marks, is_
 use Rattle.running.proofs.Fits.{keeps_says}
 use Rattle.running.proofs.Moves.{moved_length, moved_other}
 use Rattle.desk_open.specs.Opens.{opened_words}
-use Rattle.desk_open.proofs.Opened.{opened_held, opened_long}
+use Rattle.desk_open.proofs.OpenedWords.{opened_held, opened_long}
 use Rattle.desk_open.proofs.OpenCall.{open_no, open_short, open_yes}
 use Rattle.desk_start.proofs.StartLaws.{start_none, start_no, start_yes}
 use Rattle.rows_left.proofs.LeftRows.{left_rising}
@@ -120,7 +121,7 @@ module _ (ws : List ℕ) (i m : ℕ) where
       step false e f =
           subst Writes (sym (ap (told said_start) (start_none ws i m e))) (lent_no by_range 0 ws (inl refl), λ place f g h. refl)
       step true e (refuses n p l t u only) =
-          subst Writes (sym (ap (told said_start) (start_no ws i m e n p t))) (lent_no n p ws (start_numbers n p u), λ place f g h. refl)
+          subst Writes (sym (ap (told said_start) (start_no ws i m e (refusal_at n p) t))) (lent_no n p ws (start_numbers n p u), λ place f g h. refl)
       step true e (passes t never) =
           let end = end_at (running ws) i m in
           let worst = raised (worst_at (running ws) i m) in
@@ -148,7 +149,7 @@ module _ (ws : List ℕ) (pace : ℕ) where
       step false e f =
           subst PaceWrites (sym (ap (told said_pace) (pace_none ws pace e))) (lent_no by_range 0 ws (inl refl), λ place f. refl)
       step true e (paces.refuses n p l t u only) =
-          subst PaceWrites (sym (ap (told said_pace) (pace_no ws pace e n p t))) (lent_no n p ws (pace_numbers n p u), λ place f. refl)
+          subst PaceWrites (sym (ap (told said_pace) (pace_no ws pace e (refusal_at n p) t))) (lent_no n p ws (pace_numbers n p u), λ place f. refl)
       step true e (paces.passes t within r never) =
           let keeps = (keeps_says ws).0 e in
           subst PaceWrites (sym (ap (told said_pace) (pace_yes ws pace e t)))

@@ -1,21 +1,21 @@
 -- A change of pace on a running desk is turned down exactly as the table says.
 -- Assumes nothing.
-use Prim.Native.Nat.{ℕ, zero, suc, ◌+◌, ◌-◌, ◌/◌, ◌≤◌, ◌<◌}
+use Prim.Native.Nat.{ℕ, zero, suc, ◌+◌, ◌/◌, ◌≤◌, ◌<◌}
 use native.Mathlib.Omega.{arith}
 use native.Mathlib.Decide.{dec_lt}
 use mathlib.Core.Bool.{Bool, true, false, not}
 use mathlib.Core.Path.{◌≡◌, refl, sym, ap, ◌∙◌, subst}
-use mathlib.Core.List.{List, ◌∷◌, Memᴰ}
-use lib.ListN.{length, get_or}
+use mathlib.Core.List.{List, Memᴰ}
+use lib.ListN.{length}
 use borrow.Author.Tests.{not-true}
+use Rattle.std.specs.Prelude.{Ok, Err}
 use Rattle.schedule.specs.Limits.{least_pace, most_pace}
 use Rattle.schedule.specs.declared.Row.{Row}
 use Rattle.schedule.specs.declared.Profile.TheVariants.{Ordering}
 use Rattle.schedule.specs.Rows.{row, all_rows}
 use Rattle.schedule.proofs.Numbers.{from_mem}
 use Rattle.schedule.proofs.Tests.{false_is_true, true_is}
-use Rattle.refusals.specs.declared.Tested.{Tested}
-use Rattle.refusals.specs.declared.Tested.TheVariants as tested
+use Rattle.refusals.specs.Tests.{Tested, refusal_at}
 use Rattle.refusals.specs.Refusals.{by_range, by_disorder}
 use Rattle.pairs.specs.Pairs.{number_word}
 use Rattle.pairs.specs.Clashes.{NoneClash, Earliest, PairsSettled, unclashing, clashing}
@@ -28,7 +28,7 @@ use Rattle.running.proofs.Fits.{between_two}
 use Rattle.rows_left.specs.Left.{plain_row}
 use Rattle.rows_left.proofs.LeftRows.{Rising}
 use Rattle.rows_left.proofs.Plain.{plain_size, left_row, same_row, place_of, left_at}
-use Rattle.desk_pace.specs.Paces.{job_by_pace, left_by_pace, placed_back, pace_tests}
+use Rattle.desk_pace.specs.Paces.{job_by_pace, left_by_pace, pace_tests}
 use Rattle.desk_pace.proofs.LeftTests.{back_passed, back_refused}
 use Rattle.desk_pace.proofs.PaceLaws.{tests_outside, paced, tests_inside}
 use Rattle.open_desk.specs.Table.{DisagreeBy, EarliestLeft, PaceTurned, range, disorder}
@@ -36,10 +36,10 @@ use Rattle.open_desk.specs.Table.{DisagreeBy, EarliestLeft, PaceTurned, range, d
 -- How the tests of a change come out: by one refusal, and the table has it and no other; or they are passed, the rows left agree, and the
 -- table has none.
 pub data Found (d : Running) (pace : ℕ) : Type 0 where
-  refuses : (n p : ℕ) → 1 ≤ n → pace_tests d pace ≡ tested.Refused n p → PaceTurned d pace n p →
+  refuses : (n p : ℕ) → 1 ≤ n → pace_tests d pace ≡ Err (refusal_at n p) → PaceTurned d pace n p →
       ((k q : ℕ) → PaceTurned d pace k q → (n ≡ k) × (p ≡ q)) → Found d pace
-  passes : pace_tests d pace ≡ tested.Passed → (least_pace ≤ pace) × (pace ≤ most_pace) →
-      rule_tests Ordering (left_by_pace d pace) ≡ tested.Passed → ((k q : ℕ) → ¬ PaceTurned d pace k q) → Found d pace
+  passes : pace_tests d pace ≡ Ok tt → (least_pace ≤ pace) × (pace ≤ most_pace) →
+      rule_tests Ordering (left_by_pace d pace) ≡ Ok tt → ((k q : ℕ) → ¬ PaceTurned d pace k q) → Found d pace
 
 -- There is one earliest row left that disagrees with a row left above it.
 one_earliest : (d : Running) (pace k l : ℕ) → EarliestLeft d pace k → EarliestLeft d pace l → k ≡ l
@@ -161,8 +161,8 @@ module _ (d : Running) (pace n : ℕ) (rising : Rising n d.left) where
           let told : (number_word k + 2) / 4 ≡ k = omega (arith, c.above) in
           let p = paced d pace within in
           refuses by_disorder (number_word (number k)) (omega arith)
-          (tests_inside d pace within ∙ back_refused d pace (number_by Ordering) (number_word k) e ∙
-          ap (λ (i : ℕ). tested.Refused by_disorder (number_word (number i))) told)
+          (tests_inside d pace within ∙ back_refused d pace (refusal_at (number_by Ordering) (number_word k)) e ∙
+          ap (λ (i : ℕ). Err (refusal_at by_disorder (number_word (number i)))) told)
           (disorder p.0 p.1 (number k) (earliest j k c)) only
         where
           only : (m q : ℕ) → PaceTurned d pace m q → (by_disorder ≡ m) × (number_word (number k) ≡ q)

@@ -30,6 +30,7 @@ use Rattle.schedule.specs.Rows.{no_row, Day, with_opening}
 use Rattle.schedule.proofs.Filling.{mapped_at}
 use Rattle.schedule.proofs.Ranges.{in_range}
 use Rattle.schedule.proofs.Tests.{true_is}
+use Rattle.refusals.specs.Tests.{refusal_at}
 use Rattle.row_reader.specs.NearestMinute.{length_of}
 use Rattle.grammar.specs.Books.{Entry, due, row_by, day_by, Tells}
 use Rattle.readers.specs.Reads.{ordering_rule}
@@ -55,7 +56,7 @@ use Rattle.rows_left.specs.Left.{plans_here}
 use Rattle.rows_left.proofs.LeftRows.{left_rising, left_mem}
 use Rattle.rows_left.proofs.Gathering.{left_ranged}
 use Rattle.desk_open.specs.Opens.{opened_words}
-use Rattle.desk_open.proofs.Opened.{opened_held}
+use Rattle.desk_open.proofs.OpenedWords.{opened_held}
 use Rattle.desk_open.proofs.OpenCall.{open_yes}
 use Rattle.desk_start.proofs.StartLaws.{start_yes}
 use Rattle.desk_pace.specs.Paces.{job_by_pace}
@@ -230,7 +231,7 @@ module _ (opening pace : ℕ) (day : Day) (first_words : List ℕ) (calls : List
     where
       step : paced.Found (running words) p → (desk_pace words p).answer ≡ said_changed
       step (paced.refuses n q l t u only) =
-          let no = ap (λ o. (said_pace o.answer).number) (pace_no words p keeps n q t) in
+          let no = ap (λ o. (said_pace o.answer).number) (pace_no words p keeps (refusal_at n q) t) in
           let z : ⊥ = omega (arith, accepted-it, no, l) in
           absurd z
       step (paced.passes t within r never) = ap (λ o. said_pace o.answer) (pace_yes words p keeps t)

@@ -12,6 +12,7 @@ use Rattle.schedule.specs.Desk.{Pair}
 use Rattle.schedule.specs.Rows.{Day}
 use Rattle.schedule.proofs.Tests.{false_is_true}
 use Rattle.refusals.specs.Refusals.{by_range, by_narrow, by_unlisted}
+use Rattle.refusals.specs.Tests.{refusal_at}
 use Rattle.book.specs.Rows.{accepted}
 use Rattle.readers.specs.Reads.{ordering_rule, read_by}
 use Rattle.outcomes.specs.Planning.{Planning}
@@ -92,7 +93,7 @@ module _ (ws : List ℕ) (i m : ℕ) where
       step : Found (running ws) i m → (n p : ℕ) → Refuses (desk_start ws i m).answer n p ↔ StartTurned (running ws) i m n p
       step (refuses n p l t u only) =
           says_no (desk_start ws i m).answer (StartTurned (running ws) i m) n p l
-          (ap (λ o. said_start o.answer) (start_no ws i m e n p t)) u only
+          (ap (λ o. said_start o.answer) (start_no ws i m e (refusal_at n p) t)) u only
       step (passes t never) =
           says_yes (desk_start ws i m).answer (StartTurned (running ws) i m)
           (ap (λ o. (said_start o.answer).number) (start_yes ws i m e t)) never
@@ -114,7 +115,7 @@ module _ (ws : List ℕ) (pace : ℕ) where
       step : paces.Found (running ws) pace → (n p : ℕ) → Refuses (desk_pace ws pace).answer n p ↔ PaceTurned (running ws) pace n p
       step (paces.refuses n p l t u only) =
           says_no (desk_pace ws pace).answer (PaceTurned (running ws) pace) n p l
-          (ap (λ o. said_pace o.answer) (pace_no ws pace e n p t)) u only
+          (ap (λ o. said_pace o.answer) (pace_no ws pace e (refusal_at n p) t)) u only
       step (paces.passes t within r never) =
           says_yes (desk_pace ws pace).answer (PaceTurned (running ws) pace)
           (ap (λ o. (said_pace o.answer).number) (pace_yes ws pace e t)) never

@@ -9,13 +9,13 @@ use mathlib.Core.Logic.{◌⊎◌, inl, inr}
 use lib.Dec.{T, ltb}
 use lib.ListN.{length}
 use borrow.Author.Tests.{ltb-true, ltb-false}
+use Rattle.std.specs.Prelude.{Ok, Err}
 use Rattle.schedule.specs.Limits.{latest_start}
 use Rattle.schedule.specs.Rows.{stands}
 use Rattle.schedule.proofs.Tests.{false_is_true, true_is, is_true, or_cases, neither}
 use Rattle.schedule.proofs.Stands.{stands_mem, mem_stands}
-use Rattle.refusals.specs.declared.Tested.TheVariants as tested
 use Rattle.refusals.specs.Refusals.{by_unlisted, by_done, by_early}
-use Rattle.refusals.specs.Tests.{refuse_if, ◌then◌}
+use Rattle.refusals.specs.Tests.{refuse_if, ◌then◌, refusal_at}
 use Rattle.running.specs.Running.{Running, between, job_in, start_tests}
 use Rattle.running.specs.Words.{running, is_desk}
 use Rattle.running.proofs.Fits.{lies, between_two}
@@ -26,9 +26,9 @@ use Rattle.open_desk.specs.Table.{StartTurned, unlisted, done, early}
 
 -- How the tests of a start come out: by one refusal, and the table has it and no other; or they are passed, and the table has none.
 pub data Found (d : Running) (i m : ℕ) : Type 0 where
-  refuses : (n p : ℕ) → 1 ≤ n → start_tests d i m ≡ tested.Refused n p → StartTurned d i m n p →
+  refuses : (n p : ℕ) → 1 ≤ n → start_tests d i m ≡ Err (refusal_at n p) → StartTurned d i m n p →
       ((k q : ℕ) → StartTurned d i m k q → (n ≡ k) × (p ≡ q)) → Found d i m
-  passes : start_tests d i m ≡ tested.Passed → ((k q : ℕ) → ¬ StartTurned d i m k q) → Found d i m
+  passes : start_tests d i m ≡ Ok tt → ((k q : ℕ) → ¬ StartTurned d i m k q) → Found d i m
 
 module _ (d : Running) (i m : ℕ) where
   abbrev n : ℕ
@@ -104,14 +104,14 @@ module _ (d : Running) (i m : ℕ) where
 
 -- A start on lent words that is not refused is one on a desk, and has passed its tests.
 pub start_passed : (ws : List ℕ) (i m : ℕ) → (desk_start ws i m).answer.number ≡ 0 →
-    (is_desk ws ≡ true) × (start_tests (running ws) i m ≡ tested.Passed)
+    (is_desk ws ≡ true) × (start_tests (running ws) i m ≡ Ok tt)
 start_passed ws i m granted = step (is_desk ws) refl
   where
-    on : is_desk ws ≡ true → Found (running ws) i m → start_tests (running ws) i m ≡ tested.Passed
+    on : is_desk ws ≡ true → Found (running ws) i m → start_tests (running ws) i m ≡ Ok tt
     on e (refuses n p l t u only) =
-        let z : ⊥ = omega (arith, granted, ap (λ o. (said_start o.answer).number) (start_no ws i m e n p t), l) in absurd z
+        let z : ⊥ = omega (arith, granted, ap (λ o. (said_start o.answer).number) (start_no ws i m e (refusal_at n p) t), l) in absurd z
     on e (passes t never) = t
 
-    step : (b : Bool) → is_desk ws ≡ b → (is_desk ws ≡ true) × (start_tests (running ws) i m ≡ tested.Passed)
+    step : (b : Bool) → is_desk ws ≡ b → (is_desk ws ≡ true) × (start_tests (running ws) i m ≡ Ok tt)
     step false e = let z : ⊥ = omega (arith, granted, ap (λ o. (said_start o.answer).number) (start_none ws i m e)) in absurd z
     step true e = (e, on e (found (running ws) i m))

@@ -9,12 +9,12 @@ use mathlib.Core.Logic.{◌↔◌}
 use lib.Dec.{T, leb, leb→le}
 use lib.ListN.{length}
 use borrow.Author.Tests.{le-leb}
+use Rattle.std.specs.Prelude.{Ok, Err}
 use Rattle.schedule.specs.Limits.{longest_time, latest_end}
 use Rattle.schedule.specs.declared.Profile.TheVariants.{Ordering}
 use Rattle.schedule.specs.Cover.{Agreeing}
 use Rattle.schedule.proofs.Tests.{parts, is_true, true_is}
-use Rattle.refusals.specs.declared.Tested.{Tested}
-use Rattle.refusals.specs.declared.Tested.TheVariants.{Passed, Refused}
+use Rattle.refusals.specs.Tests.{Tested}
 use Rattle.pairs.proofs.Clashes.{passed_none, none_passes}
 use Rattle.readers.specs.Rules.{number_by, rule_tests}
 use Rattle.readers.proofs.Rules.{clash_mutual, obeys, none_clashes}
@@ -24,9 +24,9 @@ use Rattle.running.proofs.Fits.{desk_says}
 use Rattle.rows_left.specs.Left.{plain_left, has_passed, can_plan, plans_here}
 use Rattle.rows_left.proofs.Plain.{plain_size, plain_agrees}
 
-has_passed_lem : (o : Tested) → T (has_passed o) → o ≡ Passed
-has_passed_lem Passed t = refl
-has_passed_lem (Refused n p) t = absurd t
+has_passed_lem : (o : Tested) → T (has_passed o) → o ≡ Ok tt
+has_passed_lem (Ok _) t = refl
+has_passed_lem (Err refusal) t = absurd t
 
 module _ (d : Running) where
   abbrev size : length (plain_left d) ≡ length d.left
@@ -41,7 +41,7 @@ module _ (d : Running) where
         let room = leb→le (d.minute + longest_time * length (plain_left d)) latest_end t.0 in
         let none = passed_none (clash_mutual Ordering) (number_by Ordering) (plain_left d) (has_passed_lem _ t.1) in
         (omega (arith, room, size), (plain_agrees (job_in d.rows) d.left).0 (obeys Ordering (plain_left d) none)),
-    λ h. let passes : rule_tests Ordering (plain_left d) ≡ Passed =
+    λ h. let passes : rule_tests Ordering (plain_left d) ≡ Ok tt =
         none_passes (clash_mutual Ordering) (number_by Ordering) (plain_left d)
         (none_clashes Ordering (plain_left d) ((plain_agrees (job_in d.rows) d.left).1 h.1)) in
         rw (le-leb (d.minute + longest_time * length (plain_left d)) latest_end (omega (arith, h.0, size)), passes),

@@ -1,6 +1,6 @@
 -- The rows left of a lent desk, numbered anew from 1 on as they stand, and in columns: what `look` gives. Only contracts cite it.
 -- Rests on: Left, the words of a desk, tables filled place by place.
-use Rattle.std.specs.Prelude.{ℕ, ◌+◌, ◌≤◌, Bool, true, ◌≡◌, List, length, get_or}
+use Rattle.std.specs.Prelude.{ℕ, ◌+◌, ◌≤◌, Bool, true, false, ◌≡◌, List, length, get_or, Option, Some, None}
 use Rattle.theory.specs.Jobs.{Job}
 use Rattle.schedule.specs.Limits.{row_places}
 use Rattle.schedule.specs.declared.Row.{Row}
@@ -35,7 +35,7 @@ pub record Gathered (ws : List ℕ) (left : Left) : Type 0 where
   pub timed : Filled row_places (from 1) (word_left ws times left.rows) left.count left.minutes
   pub dated : Filled row_places (from 1) (word_left ws dues left.rows) left.count left.due
 
--- The whole answer of a look at lent words: whether the rows left can be planned, and if so, these rows.
-pub record Looked (ws : List ℕ) (left : Left) : Type 0 where
-  pub told : left.ready ≡ plans_here ws
-  pub rows : left.ready ≡ true → Gathered ws left
+-- The whole answer of a look at lent words: the rows left, where they can be planned, and otherwise none.
+abbrev pub Looked : List ℕ → Option Left → Type 0
+Looked ws (Some left) = (plans_here ws ≡ true) × Gathered ws left
+Looked ws None = plans_here ws ≡ false

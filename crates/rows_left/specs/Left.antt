@@ -1,13 +1,12 @@
 -- The rows left on a running desk: whether they can be planned. On a desk that was opened and started on they always can; on other
 -- words that look like a desk they may not.
 -- Rests on: the running desk and its words, the rule of rows (readers).
-use Rattle.std.specs.Prelude.{ℕ, ◌+◌, ◌*◌, Bool, true, false, ◌&&◌, List, map, leb, length, None}
+use Rattle.std.specs.Prelude.{ℕ, ◌+◌, ◌*◌, Bool, true, false, ◌&&◌, List, map, leb, length, None, Ok, Err}
 use Rattle.theory.specs.Jobs.{Job}
 use Rattle.schedule.specs.Limits.{longest_time, latest_end}
 use Rattle.schedule.specs.declared.Row.{Row}
 use Rattle.schedule.specs.declared.Profile.TheVariants.{Ordering}
-use Rattle.refusals.specs.declared.Tested.{Tested}
-use Rattle.refusals.specs.declared.Tested.TheVariants.{Passed, Refused}
+use Rattle.refusals.specs.Tests.{Tested}
 use Rattle.readers.specs.Rules.{rule_tests}
 use Rattle.running.specs.Running.{Running, job_in}
 use Rattle.running.specs.Words.{running, is_desk}
@@ -23,8 +22,8 @@ abbrev pub plain_left : Running → List Row
 plain_left d = plain_rows (job_in d.rows) d.left
 
 abbrev pub has_passed : Tested → Bool
-has_passed Passed = true
-has_passed (Refused n p) = false
+has_passed (Ok _) = true
+has_passed (Err refusal) = false
 
 -- Rows fit to be planned from a minute on: it leaves room for them, so that they end by 27,687,680, and no two of them disagree.
 abbrev pub fit_from : (minute : ℕ) → List Row → Bool

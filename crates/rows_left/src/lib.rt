@@ -6,11 +6,9 @@ ghost use Rattle.schedule.specs.Limits.{most_rows, row_places, latest_minute, lo
 ghost use Rattle.schedule.specs.Columns.{at, columns};
 ghost use Rattle.schedule.specs.Filled.{Filled, from};
 ghost use Rattle.rows.specs.InColumns.{Within};
-ghost use Rattle.running.specs.Words.{desk_words, count_in, left_to, running, is_desk};
-ghost use Rattle.rows_left.specs.Left.{can_plan};
-ghost use Rattle.rows_left.specs.Gathered.{left_at, word_left, FitTested, Gathered, Looked};
+ghost use Rattle.running.specs.Words.{desk_words, count_in, left_to};
+ghost use Rattle.rows_left.specs.Gathered.{left_at, word_left, FitTested, Looked};
 
-use refusals::Tested;
 use running::Layout;
 use schedule::{Desk, Profile};
 
@@ -19,10 +17,9 @@ const LONGEST_TIME: u32 = 30_030;
 
 const LATEST_END: u32 = 27_687_680;
 
-// The rows left of a desk: whether they can be planned, how many they are, their numbers from place 1 on, and their jobs in columns.
+// The rows left of a desk: how many they are, their numbers from place 1 on, and their jobs in columns.
 #[derive(Drop)]
 pub struct Left {
-    pub ready: bool,
     pub count: usize,
     pub rows: [u32; Desk::PLACES],
     pub release: [u32; Desk::PLACES],
@@ -85,17 +82,16 @@ fn can_plan<'a>(
     ensures { FitTested minute (columns release.now minutes.now due.now) count result }
 {
     let rule = readers::rule_tests(Profile::Ordering, release, minutes, due, count);
-    match rule {
-        Tested::Passed => minute + LONGEST_TIME * (count as u32) <= LATEST_END,
-        Tested::Refused(_, _) => false,
-    }
+    rule.is_ok() && minute + LONGEST_TIME * (count as u32) <= LATEST_END
 }
 
-// The rows left of a desk.
-fn gather(desk: &[u32]) -> Left
-    requires { is_desk desk.now ≡ true }
-    ensures { (result.ready ≡ can_plan (running desk.now)) × Gathered desk.now result }
+// A look at lent words: the rows left, where the words hold a desk whose rows left can be planned.
+pub fn look(desk: &[u32]) -> Option<Left>
+    ensures { Looked desk.now result }
 {
+    if !running::is_desk(desk) {
+        return None;
+    }
     let mut rows: [u32; Desk::PLACES] = [0; Desk::PLACES];
     let mut release: [u32; Desk::PLACES] = [0; Desk::PLACES];
     let mut minutes: [u32; Desk::PLACES] = [0; Desk::PLACES];
@@ -104,31 +100,14 @@ fn gather(desk: &[u32]) -> Left
     column_left(desk, Layout::RELEASES, &rows, count, &mut release);
     column_left(desk, Layout::TIMES, &rows, count, &mut minutes);
     column_left(desk, Layout::DUES, &rows, count, &mut due);
-    let ready = can_plan(desk[Layout::MINUTE], &release, &minutes, &due, count);
-    Left {
-        ready,
+    if !can_plan(desk[Layout::MINUTE], &release, &minutes, &due, count) {
+        return None;
+    }
+    Some(Left {
         count,
         rows,
         release,
         minutes,
         due,
-    }
-}
-
-// A look at lent words: the rows left, where the words hold a desk whose rows left can be planned. Elsewhere it is not ready.
-pub fn look(desk: &[u32]) -> Left
-    ensures { Looked desk.now result }
-{
-    if running::is_desk(desk) {
-        return gather(desk);
-    }
-    let none: [u32; Desk::PLACES] = [0; Desk::PLACES];
-    Left {
-        ready: false,
-        count: 0,
-        rows: none,
-        release: none,
-        minutes: none,
-        due: none,
-    }
+    })
 }

@@ -11,6 +11,7 @@ use lib.ListN.{length, set, length-set}
 use lib.Seq.{get_or-set_same, get_or-set_other}
 use lib.IntN.{sub_ℕ}
 use borrow.Author.Tests.{eqb-true}
+use Rattle.std.specs.Prelude.{Ok}
 use Rattle.theory.specs.Jobs.{Job}
 use Rattle.schedule.specs.Limits.{most_rows, longest_time, latest_due, latest_start}
 use Rattle.schedule.specs.Rows.{count_from, without}
@@ -20,7 +21,6 @@ use Rattle.schedule.proofs.Numbers.{count_range}
 use Rattle.schedule.proofs.SameJobs.{map_same}
 use Rattle.schedule.proofs.Raised.{late_lowered, max_lowered}
 use Rattle.schedule.proofs.SignedWords.{raised_lowered}
-use Rattle.refusals.specs.declared.Tested.TheVariants.{Passed}
 use Rattle.running.specs.Running.{Running, job_in, start_tests, worse, end_at, worst_at, moved}
 use Rattle.running.specs.Words.{desk_words, count_in, worst_in, releases, times, dues, marks, pages, job_at, rows_in, pages_held}
 use Rattle.running.specs.Words.{left_to, worst_held, running, IsDesk, KeepsPages, least_raised, most_raised, moved_words}
@@ -54,7 +54,7 @@ StartFits ws i m =
     (desk_words ≤ length ws) × (i ≤ most_rows) × (m ≤ latest_start) × (1 ≤ at ws (times + i)) × (at ws (times + i) ≤ longest_time) ×
     (at ws (dues + i) ≤ latest_due) × (at ws (releases + i) ≤ m)
 
-module _ (ws : List ℕ) (desk : IsDesk ws) (i m : ℕ) (passed : start_tests (running ws) i m ≡ Passed) where
+module _ (ws : List ℕ) (desk : IsDesk ws) (i m : ℕ) (passed : start_tests (running ws) i m ≡ Ok tt) where
   abbrev d : Running
   d = running ws
 

@@ -6,13 +6,12 @@ use mathlib.Core.Path.{◌≡◌}
 use lib.Dec.{ltb}
 use lib.ListN.{length}
 use borrow.Author.Tests.{ltb-false, not-false}
+use Rattle.std.specs.Prelude.{Ok}
 use Rattle.schedule.specs.Limits.{latest_start}
 use Rattle.schedule.specs.Rows.{stands}
 use Rattle.schedule.proofs.Tests.{neither, is_true}
-use Rattle.refusals.specs.declared.Tested.{Tested}
-use Rattle.refusals.specs.declared.Tested.TheVariants.{Passed}
+use Rattle.refusals.specs.Tests.{Tested, refuse_if}
 use Rattle.refusals.specs.Refusals.{by_unlisted, by_done, by_early}
-use Rattle.refusals.specs.Tests.{refuse_if}
 use Rattle.refusals.proofs.Tests.{then_left, then_right, not_refused}
 use Rattle.running.specs.Running.{Running, between, job_in, start_tests}
 use Rattle.running.proofs.Fits.{lies}
@@ -26,7 +25,7 @@ pub record MayStart (d : Running) (i m : ℕ) : Type 0 where
   pub released : (job_in d.rows i).release ≤ m
   pub early : m ≤ latest_start
 
-pub may_start : (d : Running) (i m : ℕ) → start_tests d i m ≡ Passed → MayStart d i m
+pub may_start : (d : Running) (i m : ℕ) → start_tests d i m ≡ Ok tt → MayStart d i m
 unfolding start_tests
 may_start d i m e =
     let n = length d.rows in

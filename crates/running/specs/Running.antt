@@ -9,9 +9,8 @@ use Rattle.schedule.specs.Limits.{latest_start}
 use Rattle.schedule.specs.declared.Row.{Row}
 use Rattle.schedule.specs.Rows.{job_of, with_opening, Day, row_numbers, stands, without}
 use Rattle.schedule.specs.Desk.{max_z}
-use Rattle.refusals.specs.declared.Tested.{Tested}
+use Rattle.refusals.specs.Tests.{Tested, refuse_if, ◌then◌}
 use Rattle.refusals.specs.Refusals.{by_unlisted, by_done, by_early}
-use Rattle.refusals.specs.Tests.{refuse_if, ◌then◌}
 
 -- A running desk. It keeps the opening minutes that it was opened with; `rows` is what planning sees of each row of its book, so that a
 -- row takes opening plus length; `pages` has the pages of each, from which another reader's lengths come; the rows done are those that are

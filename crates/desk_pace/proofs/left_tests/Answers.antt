@@ -2,14 +2,19 @@
 -- row that a refusal tells. Assumes nothing.
 use native.Mathlib.Omega.{arith}
 use Prim.Native.Nat.{ℕ}
-use mathlib.Core.Path.{refl, sym, ap, ◌∙◌, subst}
-use Rattle.refusals.specs.declared.Tested.TheVariants.{Refused}
+use mathlib.Core.Path.{◌≡◌, refl, sym, ap, ◌∙◌, subst}
+use Rattle.std.specs.Prelude.{Err}
+use Rattle.schedule.specs.declared.Profile.TheVariants.{Ordering}
+use Rattle.refusals.specs.Tests.{refusal_at}
 use Rattle.pairs.specs.Pairs.{number_word}
-use Rattle.running.specs.Words.{running}
+use Rattle.readers.specs.Rules.{rule_tests}
+use Rattle.running.specs.Words.{running, KeepsPages}
 use Rattle.running.proofs.Fits.{keeps_says}
 use Rattle.rows_left.proofs.Gathering.{few_left, rows_small}
+use Rattle.desk_pace.specs.Paces.{left_by_pace}
 use Rattle.desk_pace.proofs.LeftTests.{TellsRow, tells_row, back_passed, back_refused, pages_small, within, told, own_row, own_fits}
 use Rattle.desk_pace.proofs.left_tests.Goals as goal
+use Rattle.desk_pace.proofs.left_tests.Goals.{In-Err}
 
 pub numbers_left-count-requires : goal.numbers_left-count-requires
 numbers_left-count-requires c = let desk = ((keeps_says _).0 c.requires.0).desk in (desk.long, desk.count.1, refl)
@@ -51,35 +56,44 @@ rule_tests-rule-requires c =
     let h = c.column_left-2.ensures in
     (few_left keeps.desk n.0, f.sized, g.sized, h.sized, within _ keeps _ (pre.1, pre.2) n.0 n.1 f g h)
 
+-- What the rule of the columns refuses, the rule of the rows left does; and it tells one of them.
+module _ (c : In-Err) where
+  keeps : KeepsPages c.args.desk.now
+  keeps = (keeps_says _).0 c.requires.0
+
+  refused : rule_tests Ordering (left_by_pace (running c.args.desk.now) c.args.pace) ≡ Err c.in-Err.refusal
+  refused =
+      let pre = c.requires in
+      let n = c.numbers_left-count.ensures in
+      sym (told _ keeps _ (pre.1, pre.2) n.0 n.1 _ _ _ c.column_left.ensures c.lengths_left.ensures c.column_left-2.ensures
+      c.rule_tests-rule.result c.rule_tests-rule.ensures) ∙ c.in-Err.is
+
+  tells : TellsRow c.numbers_left-count.result c.in-Err.refusal.place
+  tells =
+      subst (λ (n : ℕ). TellsRow n c.in-Err.refusal.place) (sym c.numbers_left-count.ensures.0)
+      (tells_row (running c.args.desk.now) c.args.pace c.in-Err.refusal refused)
+
 pub own_place-requires : goal.own_place-requires
 own_place-requires c =
     let pre = c.requires in
-    let keeps = ((keeps_says _).0 c.requires.0) in
     let n = c.numbers_left-count.ensures in
-    own_fits _ keeps _ (pre.1, pre.2) n.0 n.1 c.in-Refused.place (subst (λ (n : ℕ). TellsRow n c.in-Refused.place) (sym c.numbers_left-count.ensures.0)
-    (tells_row (running c.args.desk.now) c.args.pace c.in-Refused.number c.in-Refused.place
-    (sym (told _ ((keeps_says _).0 c.requires.0) _ (c.requires.1, c.requires.2) c.numbers_left-count.ensures.0 c.numbers_left-count.ensures.1 _ _ _
-    c.column_left.ensures c.lengths_left.ensures c.column_left-2.ensures c.rule_tests-rule.result c.rule_tests-rule.ensures) ∙ c.in-Refused.is))) (few_left keeps.desk n.0)
+    let keeps = (keeps_says _).0 pre.0 in
+    own_fits _ keeps _ (pre.1, pre.2) n.0 n.1 c.in-Err.refusal.place (tells (goal.at.own_place-requires c).In-Err) (few_left keeps.desk n.0)
 
-pub returns-in-Passed : goal.returns-in-Passed
-returns-in-Passed c =
-    let a = c.args in
-    sym (back_passed (running a.desk.now) a.pace (sym (let pre = c.requires in
-    let n = c.numbers_left-count.ensures in
-    told _ ((keeps_says _).0 c.requires.0) _ (pre.1, pre.2) n.0 n.1 _ _ _ c.column_left.ensures c.lengths_left.ensures
-    c.column_left-2.ensures c.rule_tests-rule.result c.rule_tests-rule.ensures) ∙ c.in-Passed.is))
-
-pub returns-in-Refused : goal.returns-in-Refused
-returns-in-Refused c =
+pub returns-in-Ok : goal.returns-in-Ok
+returns-in-Ok c =
     let a = c.args in
     let pre = c.requires in
     let n = c.numbers_left-count.ensures in
-    let own = own_row _ ((keeps_says _).0 c.requires.0) _ (pre.1, pre.2) n.0 n.1 c.in-Refused.place (subst (λ (n : ℕ). TellsRow n c.in-Refused.place) (sym c.numbers_left-count.ensures.0)
-    (tells_row (running c.args.desk.now) c.args.pace c.in-Refused.number c.in-Refused.place
-    (sym (told _ ((keeps_says _).0 c.requires.0) _ (c.requires.1, c.requires.2) c.numbers_left-count.ensures.0 c.numbers_left-count.ensures.1 _ _ _
-    c.column_left.ensures c.lengths_left.ensures c.column_left-2.ensures c.rule_tests-rule.result c.rule_tests-rule.ensures) ∙ c.in-Refused.is))) in
-    ap (Refused c.in-Refused.number) (c.own_place.ensures ∙ ap number_word own) ∙
-    sym (back_refused (running a.desk.now) a.pace c.in-Refused.number c.in-Refused.place (sym (let pre = c.requires in
+    sym (back_passed (running a.desk.now) a.pace (sym (told _ ((keeps_says _).0 pre.0) _ (pre.1, pre.2) n.0 n.1 _ _ _ c.column_left.ensures
+    c.lengths_left.ensures c.column_left-2.ensures c.rule_tests-rule.result c.rule_tests-rule.ensures) ∙ c.in-Ok.is))
+
+pub returns-in-Err : goal.returns-in-Err
+returns-in-Err c =
+    let a = c.args in
+    let pre = c.requires in
     let n = c.numbers_left-count.ensures in
-    told _ ((keeps_says _).0 c.requires.0) _ (pre.1, pre.2) n.0 n.1 _ _ _ c.column_left.ensures c.lengths_left.ensures
-    c.column_left-2.ensures c.rule_tests-rule.result c.rule_tests-rule.ensures) ∙ c.in-Refused.is))
+    let step = (goal.at.returns-in-Err c).In-Err in
+    let own = own_row _ ((keeps_says _).0 pre.0) _ (pre.1, pre.2) n.0 n.1 c.in-Err.refusal.place (tells step) in
+    ap (λ (p : ℕ). Err (refusal_at c.in-Err.refusal.number p)) (c.own_place.ensures ∙ ap number_word own) ∙
+    sym (back_refused (running a.desk.now) a.pace c.in-Err.refusal (refused step))

@@ -6,7 +6,7 @@ use Rattle.std.proofs.Math.Bool.{or_assoc}
 use mathlib.Core.Path.{◌≡◌, sym, ap, ◌∙◌}
 use borrow.Author.Rules.{rules}
 use Rattle.schedule.specs.Columns.{at}
-use Rattle.refusals.specs.Tests.{◌then◌}
+use Rattle.refusals.proofs.Tests.{handed_on, then_refused, then_passed}
 use Rattle.running.specs.Running.{between}
 use Rattle.running.proofs.Fits.{desk_says}
 use Rattle.desk_start.proofs.StartLaws.{row_listed, tests_unlisted, tests_listed}
@@ -41,10 +41,18 @@ bounds-desk-i-2 c =
     let told : c.contains.result ≡ between 1 (at a.desk.now 0) a.row = search rules in
     omega (arith, d.long, d.count, row_listed a.desk.now a.row a.minute (ap not (sym told ∙ c.if-not-contains.false)))
 
+pub returns-in_err-refuse_if : goal.returns-in_err-refuse_if
+returns-in_err-refuse_if c =
+    let a = c.args in
+    let told : c.contains.result ≡ between 1 (at a.desk.now 0) a.row = search rules in
+    handed_on c.from_residual.result c.from_residual.ensures.1 ∙
+    sym (then_refused _ (sym c.refuse_if.ensures ∙ c.in_err-refuse_if.was)) ∙
+    tests_listed a.desk.now a.row a.minute (ap not (sym told ∙ c.if-not-contains.false))
+
 pub returns : goal.returns
 returns c =
     let a = c.args in
     let told : c.contains.result ≡ between 1 (at a.desk.now 0) a.row = search rules in
-    let early = rw or_assoc at c.refuse_if.ensures in
-    c.then.ensures ∙ ((λ x. c.refuse_if-done.ensures x then early x) ∙
-    tests_listed a.desk.now a.row a.minute (ap not (sym told ∙ c.if-not-contains.false)))
+    let early = rw or_assoc at c.refuse_if-2.ensures in
+    early ∙ sym (then_passed _ (sym c.refuse_if.ensures ∙ c.in_ok-refuse_if.was)) ∙
+    tests_listed a.desk.now a.row a.minute (ap not (sym told ∙ c.if-not-contains.false))

@@ -7,8 +7,7 @@ use mathlib.Core.Path.{◌≡◌, refl, sym, ap, ◌∙◌}
 use mathlib.Core.List.{List, [], ◌∷◌, ◌++◌, map}
 use mathlib.Core.Logic.{inl}
 use lib.Dec.{eqb}
-use lib.ListN.{length, drop, replicate, length-append, length-drop, length-map, length-replicate, get_or-replicate}
-use lib.ListN.{get_or-append}
+use lib.ListN.{length, drop, replicate, length-append, length-drop, length-map, length-replicate, get_or-replicate, get_or-append}
 use lib.Seq.{ext_get_or}
 use Rattle.schedule.specs.Limits.{most_rows}
 use Rattle.schedule.specs.declared.Row.{Row}
