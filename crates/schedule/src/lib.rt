@@ -1,7 +1,7 @@
 // The desk of one reader: rows, and the desk's minute and worst lateness while rows are taken one after another.
 #![tactic(auto)]
 
-ghost use Rattle.std.specs.Prelude.{◌≡◌, ◌≤◌, max};
+ghost use Rattle.std.specs.Prelude.{◌≡◌, ◌≤◌};
 ghost use Rattle.schedule.specs.Offset.{raised, lowered, desk_at, desk_after};
 
 // A profile: by which rule the rows of a book are tested and planned. A bureau chooses it by the calls that it makes.
@@ -27,13 +27,6 @@ pub struct Row {
 pub struct Desk {
     pub minute: u32,
     pub worst: u32,
-}
-
-// The later of two minutes: a row is ready at the later of the desk's minute and its release.
-pub fn later(a: u32, b: u32) -> u32
-    ensures { result ≡ max a b }
-{
-    if a < b { b } else { a }
 }
 
 impl Desk {
@@ -73,11 +66,11 @@ impl Desk {
         requires { (self.minute ≤ 1000000000) × (release ≤ 1000000000) × (minutes ≤ 1000000000) × (due ≤ 2147483647) }
         ensures { result ≡ desk_after self (record { release = release; length = minutes; due = due }) }
     {
-        let end = later(self.minute, release) + minutes;
+        let end = self.minute.max(release) + minutes;
         let late = end + 2_147_483_648 - due;
         Desk {
             minute: end,
-            worst: later(self.worst, late),
+            worst: self.worst.max(late),
         }
     }
 }
