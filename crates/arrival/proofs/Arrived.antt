@@ -11,6 +11,7 @@ use lib.ListN.{length, take, drop, get_or, set, get_or-eq_default, length-set}
 use lib.Seq.{length-take-le, get_or-take}
 use lib.Signed.{le_z}
 use borrow.Author.Tests.{le-leb, lt-leb}
+use Rattle.std.specs.Prelude.{Some, None}
 use Rattle.theory.specs.Jobs.{Job}
 use Rattle.schedule.specs.Limits.{most_rows, row_places}
 use Rattle.schedule.specs.declared.Desk.{Desk}
@@ -25,7 +26,6 @@ use Rattle.schedule.specs.Ranks.{ByArrival}
 use Rattle.schedule.proofs.Orders.{perm_count}
 use Rattle.schedule.proofs.Numbers.{length_count}
 use Rattle.schedule.proofs.Arrival.{arrival_list, arrival_perm, arrival_kept, arrival_over}
-use Rattle.listing.specs.declared.Planned.TheVariants.{Kept, Unkept}
 use Rattle.listing.specs.PlanFor.{planned_of}
 use Rattle.schedule.proofs.Raised.{lowered_le}
 use Rattle.search.proofs.Signs.{late_lowers}
@@ -92,7 +92,7 @@ module _ (job : ℕ → Job) (n : ℕ) where
           lowered_le desk.worst bound
 
       pub arrival_unkept : bound < desk.worst →
-          OrderGiven job free (arrival_for job free (count_from 1 n) (lowered bound)) bound out Unkept out
+          OrderGiven job free (arrival_for job free (count_from 1 n) (lowered bound)) bound out None out
       unfolding planned_of written_of
       arrival_unkept h =
           let e : arrival_for job free (count_from 1 n) (lowered bound) ≡ none =
@@ -104,13 +104,13 @@ module _ (job : ℕ → Job) (n : ℕ) where
           }
 
       pub arrival_given : desk.worst ≤ bound → (after : List ℕ) → after ≡ take n plan.order ++ drop n out →
-          OrderGiven job free (arrival_for job free (count_from 1 n) (lowered bound)) bound out (Kept desk.minute desk.worst) after
+          OrderGiven job free (arrival_for job free (count_from 1 n) (lowered bound)) bound out (Some desk) after
       unfolding planned_of written_of
       arrival_given h after w =
           let e : arrival_for job free (count_from 1 n) (lowered bound) ≡ some arrived =
           arrival_kept job free (count_from 1 n) (lowered bound) (against ∙ le-leb desk.worst bound h) in
           record {
-            answered = (λ x. Kept (a.after.end x) (late_is x)) ∙ ap (planned_of job free) (sym e);
+            answered = (λ x. Some (record { minute = a.after.end x; worst = late_is x })) ∙ ap (planned_of job free) (sym e);
             buffer = w ∙ ((λ x. a.rows x ++ drop (sym arrived_length x) out) ∙ ap (λ (x : Option (List ℕ)). written_of x out) (sym e));
             bounded = (a.after.low some_row, h, a.after.high);
           }

@@ -1,4 +1,4 @@
--- Answers of rows as they are: an order with its pair, the desk after a posting, and the one plan by arrival.
+-- Answers of rows as they are: an order with the desk after it, the desk after a posting, and the one plan by arrival.
 -- Latenesses and bounds are raised by 2³¹.
 -- (The list's outcome is `HoldsPlans`, beside the list itself.) Rests on: the search's answers, and the schedule's arrival.
 use Rattle.std.specs.Prelude.{ℕ, ◌≤◌, ◌≡◌, List, ◌++◌, length, take, drop}
@@ -10,10 +10,9 @@ use Rattle.schedule.specs.Rows.{count_from}
 use Rattle.schedule.specs.Desk.{end_of, pair_of}
 use Rattle.schedule.specs.Arrival.{by_arrival}
 use Rattle.schedule.specs.Offset.{raised, desk_at}
-use Rattle.listing.specs.declared.Planned.{Planned}
 use Rattle.arrival.specs.declared.Plan.{Plan}
 use Rattle.search.specs.Taking.{desk_through}
-use Rattle.listing.specs.PlanFor.{Bounded, planned_of}
+use Rattle.listing.specs.PlanFor.{Bounded, Planned, planned_of}
 
 -- The buffer b with an order written to its front.
 unfoldable pub written_of : Option (List ℕ) → List ℕ → List ℕ

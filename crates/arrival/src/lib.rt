@@ -12,7 +12,7 @@ ghost use Rattle.schedule.specs.Columns.{at, columns, Limits};
 ghost use Rattle.listing.specs.Fronts.{HoldsPlans};
 ghost use Rattle.arrival.specs.Given.{OrderGiven, Followed, Arrived};
 
-use listing::{Front, Planned};
+use listing::Front;
 use schedule::{Desk, Profile};
 
 // The one plan by arrival: its rows in the first places of `order`, and the desk after them.
@@ -87,7 +87,7 @@ pub fn list_by_arrival<'a>(
     }
 }
 
-// The order for a bound by arrival: the one plan's, if its worst lateness is at most the bound.
+// The order for a bound by arrival: the one plan's, if its worst lateness is at most the bound. The answer is the desk after it.
 pub fn order_by_arrival<'a>(
     release: &'a [u32; Desk::PLACES],
     minutes: &'a [u32; Desk::PLACES],
@@ -96,7 +96,7 @@ pub fn order_by_arrival<'a>(
     free: u32,
     bound: u32,
     out: &mut [u32],
-) -> Planned
+) -> Option<Desk>
     requires limits { Limits (columns release.now minutes.now due.now) }
     requires le_n { (1 ≤ n) × (n ≤ most_rows) × EndsInTime free n × (n ≤ length out.old) }
     ensures { OrderGiven (columns release.now minutes.now due.now) free
@@ -106,8 +106,8 @@ pub fn order_by_arrival<'a>(
     let plan = arrive(release, minutes, due, n, free);
     let desk = plan.desk;
     if bound < desk.worst {
-        return Planned::Unkept;
+        return None;
     }
     out[..n].copy_from_slice(&plan.order[..n]);
-    Planned::Kept(desk.minute, desk.worst)
+    Some(desk)
 }

@@ -9,6 +9,7 @@ use mathlib.Core.Option.{Option, none, some}
 use lib.ListN.{length, take, drop}
 use lib.IntN.{pos}
 use lib.Signed.{le_z}
+use Rattle.std.specs.Prelude.{Some, None}
 use Rattle.theory.specs.Jobs.{Job}
 use Rattle.schedule.specs.Limits.{most_rows}
 use Rattle.schedule.specs.declared.Desk.{Desk}
@@ -22,9 +23,7 @@ use Rattle.schedule.proofs.Matches.{match_all}
 use Rattle.schedule.proofs.Renumbered.{end_renumbered, renumbered, order_rows}
 use Rattle.ranks.specs.Tables.{Tabled}
 use Rattle.search.specs.Searched.{order_at_raised}
-use Rattle.listing.specs.declared.Planned.{Planned}
-use Rattle.listing.specs.declared.Planned.TheVariants.{Kept, Unkept}
-use Rattle.listing.specs.PlanFor.{planned_of}
+use Rattle.listing.specs.PlanFor.{Planned, planned_of}
 use Rattle.arrival.specs.Given.{written_of, OrderGiven}
 use Rattle.plans.proofs.Ranked.{new, ranks_high, ordered_kept}
 use Rattle.how_late.specs.Latest.{latest_free, latest_order, OrderFrom}
@@ -35,10 +34,10 @@ use Rattle.latest_search.specs.declared.Latest.TheVariants.{At, Never}
 use Rattle.latest_search.specs.declared.Halving.{Halving}
 use Rattle.latest_search.specs.Found.{in_time_at, Reached, Halved, latest_of, order_of, LatestGiven}
 
--- The pair that is answered for a bound, as an answer from the minute t.
+-- The desk that is answered for a bound, as an answer from the minute t.
 abbrev from : ℕ → Planned → Latest
-from t (Kept e y) = At t e y
-from t Unkept = Never
+from t (Some desk) = At t desk.minute desk.worst
+from t None = Never
 
 module _ {n : ℕ} {release minutes due rows releases lengths dues by : List ℕ}
     (t : Tabled n release minutes due rows releases lengths dues by) (limits : Limits (columns release minutes due))
@@ -97,7 +96,7 @@ module _ {n : ℕ} {release minutes due rows releases lengths dues by : List ℕ
       given_found after w = step (order_at_raised job n r.minute bound) refl
         where
           given : OrderGiven job r.minute (order_at_raised job n r.minute bound) bound out
-              (Kept reached.standing.desk.minute reached.standing.desk.worst) after
+              (Some reached.standing.desk) after
           given = ordered_kept t limits low few r.minute bound out reached.standing r.order reached.searched reached.kept
               after w
 

@@ -13,9 +13,11 @@ use lib.IntN.{ℤ, pred_ℤ}
 use lib.ListN.{length, get_or, set, take, length-set, length-append}
 use lib.Seq.{get_or-set_same, take-set-le, take-suc}
 use borrow.Author.Tests.{eq-eqb, ne_eqb}
+use Rattle.std.specs.Prelude.{Some, None}
 use Rattle.theory.specs.Jobs.{Job}
 use Rattle.schedule.specs.Limits.{EndsInTime, latest_due, latest_end, longest_time, most_rows}
 use Rattle.schedule.specs.Rows.{count_from}
+use Rattle.schedule.specs.declared.Desk.{Desk}
 use Rattle.schedule.specs.Desk.{Pair, OrderOf, end_of, pair_of}
 use Rattle.schedule.specs.Picks.{order_for}
 use Rattle.schedule.specs.Plans.{plans}
@@ -28,12 +30,9 @@ use Rattle.schedule.proofs.Orders.{perm_count}
 use Rattle.schedule.proofs.Cover.{promised}
 use Rattle.schedule.proofs.Numbers.{length_count}
 use Rattle.listing.specs.declared.Front.{Front}
-use Rattle.listing.specs.declared.Planned.{Planned}
-use Rattle.listing.specs.declared.Planned.TheVariants.{Kept, Unkept}
 use Rattle.schedule.specs.Columns.{Limits}
 use Rattle.listing.specs.Fronts.{pair_place, put_pair, HoldsPlans}
-use Rattle.listing.specs.PlanFor.{Paired}
-use Rattle.listing.specs.PlanFor.{planned_of}
+use Rattle.listing.specs.PlanFor.{Planned, planned_of, Paired}
 use Rattle.search.specs.Searched.{order_at_raised}
 use Rattle.search.proofs.Signs.{lowered_pred, late_lowers}
 
@@ -96,32 +95,24 @@ module _ (job : ℕ → Job) (n free : ℕ) where
   listing_first front c e l = record { end_places = e; late_places = l; so_far = inl (c, refl) }
 
   -- The order behind an answer.
-  answer_some : (x : Option (List ℕ)) (e l : ℕ) → Kept e l ≡ planned_of job free x → (o : List ℕ) × (x ≡ some o) ×
-      (e ≡ end_of job free o) × (l ≡ raised (pair_of job free o).late)
+  answer_some : (x : Option (List ℕ)) (desk : Desk) → Some desk ≡ planned_of job free x → (o : List ℕ) × (x ≡ some o) ×
+      (desk.minute ≡ end_of job free o) × (desk.worst ≡ raised (pair_of job free o).late)
   unfolding planned_of
-  answer_some none e l h = let z : ◌≡◌ {A = ℕ} 1 0 = ap mark h in let x : ⊥ = omega arith in absurd x
-    where
-      mark : Planned → ℕ
-      mark Unkept = 0
-      mark (Kept e l) = 1
-  answer_some (some o) e l h = (o, refl, ap end_in h, ap late_in h)
+  answer_some none desk h = let z : ◌≡◌ {A = ℕ} 0 1 = cc in let x : ⊥ = omega arith in absurd x
+  answer_some (some o) desk h = (o, refl, ap end_in h, ap late_in h)
     where
       end_in : Planned → ℕ
-      end_in Unkept = 0
-      end_in (Kept e l) = e
+      end_in None = 0
+      end_in (Some d) = d.minute
 
       late_in : Planned → ℕ
-      late_in Unkept = 0
-      late_in (Kept e l) = l
+      late_in None = 0
+      late_in (Some d) = d.worst
 
-  answer_none : (x : Option (List ℕ)) → Unkept ≡ planned_of job free x → x ≡ none
+  answer_none : (x : Option (List ℕ)) → None ≡ planned_of job free x → x ≡ none
   unfolding planned_of
   answer_none none h = refl
-  answer_none (some o) h = let z : ◌≡◌ {A = ℕ} 0 1 = ap mark h in let x : ⊥ = omega arith in absurd x
-    where
-      mark : Planned → ℕ
-      mark Unkept = 0
-      mark (Kept e l) = 1
+  answer_none (some o) h = let z : ◌≡◌ {A = ℕ} 0 1 = cc in let x : ⊥ = omega arith in absurd x
 
   module _ (limits : Limits job) (low : 1 ≤ n) (small : n ≤ most_rows) (early : EndsInTime free n)
       (agreeing : Agreeing job (count_from 1 n)) where
@@ -146,7 +137,7 @@ module _ (job : ℕ → Job) (n free : ℕ) where
 
     module _ (front : Front) (bound : ℕ) (s : Listing front bound) where
       -- The bound is not kept: the list is at its end.
-      pub listing_last : Paired job n free bound Unkept → HoldsPlans (plans job free (count_from 1 n)) n front
+      pub listing_last : Paired job n free bound None → HoldsPlans (plans job free (count_from 1 n)) n front
       listing_last a = go s.so_far
         where
           unkept : order_for job free rows (lowered bound) ≡ none
@@ -174,10 +165,10 @@ module _ (job : ℕ → Job) (n free : ℕ) where
               }
 
       -- One pair more.
-      module _ (e l : ℕ) (a : Paired job n free bound (Kept e l)) where
-        found : (o : List ℕ) × (order_for job free rows (lowered bound) ≡ some o) × (e ≡ end_of job free o) ×
-            (l ≡ raised (pair_of job free o).late)
-        found = answer_some (order_at_raised job n free bound) e l a.answered
+      module _ (desk : Desk) (a : Paired job n free bound (Some desk)) where
+        found : (o : List ℕ) × (order_for job free rows (lowered bound) ≡ some o) × (desk.minute ≡ end_of job free o) ×
+            (desk.worst ≡ raised (pair_of job free o).late)
+        found = answer_some (order_at_raised job n free bound) desk a.answered
 
         abbrev pair : Pair
         pair = pair_of job free found.0
@@ -185,25 +176,25 @@ module _ (job : ℕ → Job) (n free : ℕ) where
         found_rows : 1 ≤ length found.0
         found_rows = order_rows found.0 ((promised job free rows agreeing some_row).best (lowered bound) found.0 found.1).0
 
-        next_bound : pred_ℤ pair.late ≡ lowered (l - 1)
+        next_bound : pred_ℤ pair.late ≡ lowered (desk.worst - 1)
         next_bound =
             ap pred_ℤ (sym (late_lowers job limits free found.0 found_rows) ∙ ap lowered (sym found.3)) ∙
-            sym (lowered_pred l a.bounded.0)
+            sym (lowered_pred desk.worst a.bounded.0)
 
         -- Where the pair goes: what is done for good then, and the place after it.
         record Placed : Type 0 where
           pub done : List Pair
-          pub place : pair_place front.ends front.count e ≡ length done
+          pub place : pair_place front.ends front.count desk.minute ≡ length done
           pub room : length done < n
           pub ends : take (length done) front.ends ≡ map (λ p. p.end) done
           pub lates : take (length done) front.lates ≡ map (λ p. raised p.late) done
-          pub going : Going job free rows done pair (lowered (l - 1))
+          pub going : Going job free rows done pair (lowered (desk.worst - 1))
 
-        onward : (done : List Pair) → Going job free rows done pair (pred_ℤ pair.late) → Going job free rows done pair (lowered (l - 1))
+        onward : (done : List Pair) → Going job free rows done pair (pred_ℤ pair.late) → Going job free rows done pair (lowered (desk.worst - 1))
         onward done g = subst (λ (y : ℤ). Going job free rows done pair y) next_bound g
 
-        room_for : (done : List Pair) → Going job free rows done pair (lowered (l - 1)) → length done < n
-        room_for done g = omega (arith, going_room plannable fits done pair (lowered (l - 1)) g, length_count 1 n)
+        room_for : (done : List Pair) → Going job free rows done pair (lowered (desk.worst - 1)) → length done < n
+        room_for done g = omega (arith, going_room plannable fits done pair (lowered (desk.worst - 1)) g, length_count 1 n)
 
         placed : Placed
         placed = go s.so_far
@@ -214,7 +205,7 @@ module _ (job : ℕ → Job) (n free : ℕ) where
                 (ap (λ (b : ℕ). order_for job free rows (lowered b)) (sym h.1) ∙ found.1)) in
                 record {
                   done = [];
-                  place = sym (place_none front.ends front.count e h.0);
+                  place = sym (place_none front.ends front.count desk.minute h.0);
                   room = low;
                   ends = refl;
                   lates = refl;
@@ -223,9 +214,9 @@ module _ (job : ℕ → Job) (n free : ℕ) where
             go (inr b) = test (eqb b.last.end pair.end) refl
               where
                 at : (t : Bool) → eqb b.last.end pair.end ≡ t →
-                    pair_place front.ends front.count e ≡ cond t (length b.done) (suc (length b.done))
+                    pair_place front.ends front.count desk.minute ≡ cond t (length b.done) (suc (length b.done))
                 at t h =
-                    ap (λ (k : ℕ). pair_place front.ends k e) b.count ∙
+                    ap (λ (k : ℕ). pair_place front.ends k desk.minute) b.count ∙
                     unfold pair_place in ap (λ (c : Bool). cond c (length b.done) (suc (length b.done)))
                     ((λ x. eqb (b.end x) (found.2 x)) ∙ h)
 
@@ -253,34 +244,34 @@ module _ (job : ℕ → Job) (n free : ℕ) where
                       going = g;
                     }
 
-        pub listing_room : (front.count ≤ most_rows) × (pair_place front.ends front.count e < most_rows)
+        pub listing_room : (front.count ≤ most_rows) × (pair_place front.ends front.count desk.minute < most_rows)
         listing_room = (go s.so_far, omega (arith, placed.place, placed.room))
           where
             go : ((front.count ≡ 0) × (bound ≡ 4294967295)) ⊎ Begun front bound → front.count ≤ most_rows
             go (inl h) = omega (arith, h.0)
             go (inr b) = omega (arith, b.count, going_room plannable fits b.done b.last (lowered bound) b.going, length_count 1 n)
 
-        pub listing_next : (r : Front) → r ≡ put_pair front e l → Listing r (l - 1)
+        pub listing_next : (r : Front) → r ≡ put_pair front desk.minute desk.worst → Listing r (desk.worst - 1)
         listing_next r made =
             let k = length placed.done in
-            let x : r.ends ≡ set front.ends k e = ap (λ (f : Front). f.ends) made ∙
-            ap (λ (m : ℕ). set front.ends m e) placed.place in
-            let y : r.lates ≡ set front.lates k l = ap (λ (f : Front). f.lates) made ∙
-            ap (λ (m : ℕ). set front.lates m l) placed.place in
+            let x : r.ends ≡ set front.ends k desk.minute = ap (λ (f : Front). f.ends) made ∙
+            ap (λ (m : ℕ). set front.ends m desk.minute) placed.place in
+            let y : r.lates ≡ set front.lates k desk.worst = ap (λ (f : Front). f.lates) made ∙
+            ap (λ (m : ℕ). set front.lates m desk.worst) placed.place in
             let h : k ≤ k = omega arith in
             record {
-              end_places = ap length x ∙ (length-set front.ends k e ∙ s.end_places);
-              late_places = ap length y ∙ (length-set front.lates k l ∙ s.late_places);
+              end_places = ap length x ∙ (length-set front.ends k desk.minute ∙ s.end_places);
+              late_places = ap length y ∙ (length-set front.lates k desk.worst ∙ s.late_places);
               so_far = inr (record {
                 done = placed.done;
                 last = pair;
                 count = ap (λ (f : Front). f.count) made ∙ (ap (λ (m : ℕ). m + 1) placed.place ∙ add-one k);
-                ends = ap (take k) x ∙ (take-set-le k front.ends k e h ∙ placed.ends);
-                lates = ap (take k) y ∙ (take-set-le k front.lates k l h ∙ placed.lates);
+                ends = ap (take k) x ∙ (take-set-le k front.ends k desk.minute h ∙ placed.ends);
+                lates = ap (take k) y ∙ (take-set-le k front.lates k desk.worst h ∙ placed.lates);
                 end = ap (λ (xs : List ℕ). get_or xs k 0) x ∙
-                    (get_or-set_same front.ends k e 0 (omega (arith, placed.room, s.end_places)) ∙ found.2);
+                    (get_or-set_same front.ends k desk.minute 0 (omega (arith, placed.room, s.end_places)) ∙ found.2);
                 late = ap (λ (xs : List ℕ). get_or xs k 0) y ∙
-                    (get_or-set_same front.lates k l 0 (omega (arith, placed.room, s.late_places)) ∙ found.3);
+                    (get_or-set_same front.lates k desk.worst 0 (omega (arith, placed.room, s.late_places)) ∙ found.3);
                 going = placed.going;
               });
             }

@@ -14,13 +14,6 @@ ghost use Rattle.listing.specs.Fronts.{pair_place, put_pair, HoldsPlans};
 
 use schedule::Desk;
 
-// The answer for a bound: the order's end and its worst lateness, raised.
-#[derive(Clone, Copy)]
-pub enum Planned {
-    Kept(u32, u32),
-    Unkept,
-}
-
 // The list of plans: the end of each, and its lateness, raised.
 #[derive(Drop)]
 pub struct Front {
@@ -67,14 +60,14 @@ fn put_pair(
     k + 1
 }
 
-// What a desk without rows left over answers for a bound: its pair, where its worst lateness is within the bound.
-fn answer(desk: Desk, bound: u32) -> Planned
+// What a desk without rows left over answers for a bound: itself, where its worst lateness is within the bound.
+fn answer(desk: Desk, bound: u32) -> Option<Desk>
     ensures { result ≡ answer_of desk bound }
 {
     if desk.worst <= bound {
-        Planned::Kept(desk.minute, desk.worst)
+        Some(desk)
     } else {
-        Planned::Unkept
+        None
     }
 }
 
@@ -101,9 +94,9 @@ fn list_along(
     let mut count: usize = 0;
     let mut bound: u32 = LARGEST_BOUND;
     let mut reached = trail::set_out(release, minutes, due, by, n, free, bound, &mut order, trail);
-    while let Planned::Kept(end, late) = answer(reached.at.desk, bound) {
-        count = put_pair(&mut ends, &mut lates, count, end, late);
-        bound = late - 1;
+    while let Some(desk) = answer(reached.at.desk, bound) {
+        count = put_pair(&mut ends, &mut lates, count, desk.minute, desk.worst);
+        bound = desk.worst - 1;
         reached = trail::resume(
             release, minutes, due, by, n, reached, bound, &mut order, trail,
         );

@@ -11,7 +11,7 @@ use lib.IntN.{ℤ}
 use mir.Syntax.{w32}
 use mir.Val.{SFits, to_z, of_z}
 use mir.ValLaws.{to_z-of_z}
-use Rattle.std.specs.Prelude.{Ok, Err}
+use Rattle.std.specs.Prelude.{Ok, Err, Some, None}
 use Rattle.theory.specs.Jobs.{Job}
 use Rattle.schedule.specs.declared.Desk.{Desk}
 use Rattle.schedule.specs.declared.Profile.{Profile}
@@ -23,9 +23,7 @@ use Rattle.schedule.proofs.Numbers.{length_count}
 use Rattle.refusals.proofs.Tests.{never}
 use Rattle.refusals.specs.Tests.{refusal_at}
 use Rattle.postings.specs.Posting.{posting_tests}
-use Rattle.listing.specs.declared.Planned.{Planned}
-use Rattle.listing.specs.declared.Planned.TheVariants.{Kept, Unkept}
-use Rattle.listing.specs.PlanFor.{planned_of}
+use Rattle.listing.specs.PlanFor.{Planned, planned_of}
 use Rattle.listing.specs.declared.Front.{Front}
 use Rattle.listing.specs.Fronts.{pair_at, held, Sized, HoldsPlans}
 use Rattle.listing.proofs.Fronts.{held_at, plans_sized, plans_held}
@@ -115,31 +113,31 @@ module _ {profile : Profile} {job : ℕ → Job} {t n : ℕ} (p : Plannable prof
     abbrev y : ℤ
     y = lowered bound
 
-    unkept_by : (o : Option (List ℕ)) → g.orders y ≡ o → planned_of job t o ≡ Unkept →
+    unkept_by : (o : Option (List ℕ)) → g.orders y ≡ o → planned_of job t o ≡ None →
         gives (Err (refusal_at 12 0)) (written_of o b) ≡ order_outcome g y b
     unfolding planned_of written_of
     unkept_by none f u = sym (order_none g y b (omega (arith, rows_length)) f)
     unkept_by (some order) f u = never (cc)
 
-    pub order_unkept : answer ≡ Unkept → gives (Err (refusal_at 12 0)) after ≡ order_outcome g y b
+    pub order_unkept : answer ≡ None → gives (Err (refusal_at 12 0)) after ≡ order_outcome g y b
     order_unkept u = ap (λ (w : List ℕ). gives (Err (refusal_at 12 0)) w) r.buffer ∙
         unkept_by (g.orders y) refl (sym r.answered ∙ u)
 
-    kept_by : (o : Option (List ℕ)) → g.orders y ≡ o → (end late : ℕ) → planned_of job t o ≡ Kept end late →
-        gives (Ok (record { end = end; late = lowered late })) (written_of o b) ≡ order_outcome g y b
+    kept_by : (o : Option (List ℕ)) → g.orders y ≡ o → (desk : Desk) → planned_of job t o ≡ Some desk →
+        gives (Ok (record { end = desk.minute; late = lowered desk.worst })) (written_of o b) ≡ order_outcome g y b
     unfolding planned_of written_of written
-    kept_by none f end late k = never (cc)
-    kept_by (some order) f end late k =
-        let e : end_of job t order ≡ end = cc in
-        let l : raised (pair_of job t order).late ≡ late = cc in
+    kept_by none f desk k = never (cc)
+    kept_by (some order) f desk k =
+        let d : ◌≡◌ {A = Desk} (record { minute = end_of job t order; worst = raised (pair_of job t order).late }) desk = cc in
         let o = ((sound_in p).promise.best y order f).0 in
-        let z : lowered late ≡ (pair_of job t order).late = ap lowered (sym l) ∙ order_lowers p order o in
-        (λ x. gives (Ok (record { end = sym e x; late = z x })) (order ++ drop (length order) b)) ∙
+        let z : lowered desk.worst ≡ (pair_of job t order).late = ap (λ (k : Desk). lowered k.worst) (sym d) ∙ order_lowers p order o in
+        (λ x. gives (Ok (record { end = (sym d x).minute; late = z x })) (order ++ drop (length order) b)) ∙
         sym (order_some g y b (omega (arith, rows_length)) order f)
 
-    pub order_kept : (end late : ℕ) → answer ≡ Kept end late → gives (Ok (record { end = end; late = lowered late })) after ≡ order_outcome g y b
-    order_kept end late k = ap (λ (w : List ℕ). gives (Ok (record { end = end; late = lowered late })) w) r.buffer ∙
-        kept_by (g.orders y) refl end late (sym r.answered ∙ k)
+    pub order_kept : (desk : Desk) → answer ≡ Some desk →
+        gives (Ok (record { end = desk.minute; late = lowered desk.worst })) after ≡ order_outcome g y b
+    order_kept desk k = ap (λ (w : List ℕ). gives (Ok (record { end = desk.minute; late = lowered desk.worst })) w) r.buffer ∙
+        kept_by (g.orders y) refl desk (sym r.answered ∙ k)
 
 -- A number from 1 on is never 0: so 0 says that there is none.
 beating_from : (k : ℕ) (ps : List Pair) (q : Pair) → 1 ≤ k → (n : ℕ) → first_beating k ps q ≡ some n → 1 ≤ n

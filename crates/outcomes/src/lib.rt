@@ -12,7 +12,6 @@ ghost use Rattle.outcomes.specs.Outcomes.{judged_of, list_outcome, order_outcome
 ghost use Rattle.outcomes.specs.Planning.{gives, planning_in};
 ghost use Rattle.outcomes.specs.Plannable.{Plannable};
 
-use listing::Planned;
 use refusals::Refusal;
 use schedule::{Desk, Profile};
 
@@ -79,17 +78,15 @@ pub fn order_in<'a>(
             place: 0,
         });
     }
-    let Planned::Kept(end, late) = plans::order_for(
-        profile, release, minutes, due, n, free, bound, res,
-    ) else {
+    let Some(desk) = plans::order_for(profile, release, minutes, due, n, free, bound, res) else {
         return Err(Refusal {
             number: Refusal::UNKEPT,
             place: 0,
         });
     };
     Ok(Attained {
-        end,
-        late: schedule::lower(late),
+        end: desk.minute,
+        late: schedule::lower(desk.worst),
     })
 }
 

@@ -7,7 +7,7 @@ use Rattle.theory.specs.Jobs.{Job}
 use Rattle.schedule.specs.declared.Profile.{Profile}
 use Rattle.schedule.specs.Offset.{lowered}
 use Rattle.schedule.specs.Profiles.{order_by}
-use Rattle.listing.specs.declared.Planned.{Planned}
+use Rattle.listing.specs.PlanFor.{Planned}
 use Rattle.arrival.specs.Given.{OrderGiven}
 
 -- What is given by one name of a profile is given by the other.

@@ -8,6 +8,7 @@ use mathlib.Core.Option
 use mathlib.Core.Option.{Option, none, some}
 use lib.ListN.{length, take, drop, length-map}
 use lib.Seq.{length-take-le}
+use Rattle.std.specs.Prelude.{Some, None}
 use Rattle.theory.specs.Jobs.{Job}
 use Rattle.schedule.specs.Limits.{EndsInTime, latest_due, latest_minute, longest_time, most_rows}
 use Rattle.schedule.specs.declared.Desk.{Desk}
@@ -26,7 +27,6 @@ use Rattle.ranks.proofs.Ranking.{ranked_jobs}
 use Rattle.picks.specs.declared.Standing.{Standing}
 use Rattle.picks.specs.Standing.{Tables}
 use Rattle.listing.specs.declared.Front.{Front}
-use Rattle.listing.specs.declared.Planned.TheVariants.{Kept, Unkept}
 use Rattle.listing.specs.PlanFor.{planned_of}
 use Rattle.search.specs.Searched.{order_at_raised, Searched}
 use Rattle.arrival.specs.Given.{written_of, OrderGiven}
@@ -67,7 +67,7 @@ module _ {n : ℕ} {release length₀ due rows release' length' due' by : List �
     order_is : (x : Option (List ℕ)) → order_at_raised job' n free bound ≡ x → order_at_raised job n free bound ≡ Option.map (map (at rows)) x
     order_is x e = renumbered new (match_all t.by_rank) free (lowered bound) ∙ ap (Option.map (map (at rows))) e
 
-    pub ordered_over : bound < s.desk.worst → OrderGiven job free (order_at_raised job n free bound) bound out Unkept out
+    pub ordered_over : bound < s.desk.worst → OrderGiven job free (order_at_raised job n free bound) bound out None out
     unfolding planned_of written_of
     ordered_over h =
         let e = order_is none (g.over h) in
@@ -87,7 +87,7 @@ module _ {n : ℕ} {release length₀ due rows release' length' due' by : List �
       ranks_high i l = omega (arith, ranks_within (at order i) (place_mem n order i l (omega (arith, g.places))))
 
       pub ordered_kept : (after : List ℕ) → after ≡ map (at rows) ranks ++ drop n out →
-          OrderGiven job free (order_at_raised job n free bound) bound out (Kept s.desk.minute s.desk.worst) after
+          OrderGiven job free (order_at_raised job n free bound) bound out (Some s.desk) after
       unfolding planned_of written_of
       ordered_kept after w =
           let e = order_is (some ranks) (g.kept h).0 in
@@ -101,7 +101,7 @@ module _ {n : ℕ} {release length₀ due rows release' length' due' by : List �
           ap (λ (x : Desk). x.worst) d ∙
           (followed_raised job' limits_ranked free ranks some_row ∙ ap (λ (x : Pair). raised x.late) (sym p)) in
           record {
-            answered = (λ x. Kept (m x) (l x)) ∙ ap (planned_of job free) (sym e);
+            answered = (λ i. Some (record { minute = m i; worst = l i })) ∙ ap (planned_of job free) (sym e);
             buffer = w ∙ (ap (λ (k : ℕ). map (at rows) ranks ++ drop k out) (sym (length-map ranks (at rows) ∙ ranks_long)) ∙
                 ap (λ (x : Option (List ℕ)). written_of x out) (sym e));
             bounded = (

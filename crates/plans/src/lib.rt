@@ -15,7 +15,7 @@ ghost use Rattle.schedule.specs.Columns.{at, columns, Limits};
 ghost use Rattle.listing.specs.Fronts.{HoldsPlans};
 ghost use Rattle.arrival.specs.Given.{OrderGiven, Followed};
 
-use listing::{Front, Planned};
+use listing::Front;
 use schedule::{Desk, Profile};
 
 // The list of the rows 1 to n by the profile.
@@ -49,7 +49,7 @@ pub fn order_for<'a>(
     free: u32,
     bound: u32,
     out: &mut [u32],
-) -> Planned
+) -> Option<Desk>
     requires limits { Limits (columns release.now minutes.now due.now) }
     requires le_n { (1 ≤ n) × (n ≤ most_rows) × EndsInTime free n × (n ≤ length out.old) }
     ensures { OrderGiven (columns release.now minutes.now due.now) free
@@ -119,7 +119,7 @@ fn order_by_rank<'a>(
     free: u32,
     bound: u32,
     out: &mut [u32],
-) -> Planned
+) -> Option<Desk>
     requires limits { Limits (columns release.now minutes.now due.now) }
     requires le_n { (1 ≤ n) × (n ≤ most_rows) × EndsInTime free n × (n ≤ length out.old) }
     ensures { OrderGiven (columns release.now minutes.now due.now) free
@@ -145,10 +145,10 @@ fn order_by_rank<'a>(
     let mut order: [u32; Desk::ROWS] = [0; Desk::ROWS];
     let s = search::plan_for(&releases, &lengths, &dues, &by, n, free, bound, &mut order);
     if bound < s.desk.worst {
-        return Planned::Unkept;
+        return None;
     }
     write_order(&order, &rows, n, out);
-    Planned::Kept(s.desk.minute, s.desk.worst)
+    Some(s.desk)
 }
 
 // The rows of the first k ranks of an order, into a lent buffer.

@@ -14,8 +14,8 @@ use Rattle.listing.proofs.list_along.Goals as goal
 pub set_out-reached-requires : goal.set_out-reached-requires
 set_out-reached-requires c = record { limits = c.requires.limits; tables = c.requires.tables; ends_in_time = (c.requires.le_n.1, search rules, c.requires.le_n.2) }
 
-pub loop-end-init : goal.loop-end-init
-loop-end-init c =
+pub loop-desk-init : goal.loop-desk-init
+loop-desk-init c =
     let a = c.args in
     let job = columns a.release.now a.minutes.now a.due.now in
     let o = c.set_out-reached.ensures in (
@@ -30,7 +30,7 @@ loop-end-init c =
 pub returns : goal.returns
 returns c =
     let a = c.args in
-    let l = c.loop-end in
+    let l = c.loop-desk in
     let job = columns a.release.now a.minutes.now a.due.now in
     let says = sym c.answer.ensures ∙ c.in_default.is in
     listing_last job a.n a.free c.requires.limits c.requires.le_n.0 c.requires.tables.few c.requires.le_n.1 c.requires.le_n.3 _ _ l.invariant.3
@@ -39,52 +39,52 @@ returns c =
 pub put_pair-count-requires : goal.put_pair-count-requires
 put_pair-count-requires c =
     let a = c.args in
-    let l = c.loop-end in
+    let l = c.loop-desk in
     let job = columns a.release.now a.minutes.now a.due.now in
-    let says = sym c.answer.ensures ∙ c.in-Kept.is in
+    let says = sym c.answer.ensures ∙ c.in-Some.is in
     let w = answered _ _ _ c.requires.limits _ c.requires.le_n.0 c.requires.tables.few _ _ _ l.invariant.2 _ says in
     listing_room job a.n a.free c.requires.limits c.requires.le_n.0 c.requires.tables.few c.requires.le_n.1 c.requires.le_n.3
-    (record { count = l.count; ends = l.ends; lates = l.lates }) l.bound l.invariant.3 c.in-Kept.end c.in-Kept.late w
+    (record { count = l.count; ends = l.ends; lates = l.lates }) l.bound l.invariant.3 c.in-Some.desk w
 
 pub overflow_sub-bound : goal.overflow_sub-bound
 overflow_sub-bound c =
     let a = c.args in
-    let l = c.loop-end in
+    let l = c.loop-desk in
     let job = columns a.release.now a.minutes.now a.due.now in
-    let says = sym c.answer.ensures ∙ c.in-Kept.is in
+    let says = sym c.answer.ensures ∙ c.in-Some.is in
     let w = answered _ _ _ c.requires.limits _ c.requires.le_n.0 c.requires.tables.few _ _ _ l.invariant.2 _ says in
     omega (arith, w.bounded)
 
 pub resume-reached-requires : goal.resume-reached-requires
 resume-reached-requires c =
     let a = c.args in
-    let l = c.loop-end in
+    let l = c.loop-desk in
     let job = columns a.release.now a.minutes.now a.due.now in
-    let says = sym c.answer.ensures ∙ c.in-Kept.is in
-    let w = answered _ _ _ c.requires.limits _ c.requires.le_n.0 c.requires.tables.few _ _ _ l.invariant.2 _ says in record { limits = c.requires.limits; tables = c.requires.tables; order_len = (l.invariant.0, l.invariant.1, (a.free, l.bound, lowers _ _ _ c.requires.limits _ _ _ _ l.invariant.2 _ _ says w.bounded.0)) }
+    let says = sym c.answer.ensures ∙ c.in-Some.is in
+    let w = answered _ _ _ c.requires.limits _ c.requires.le_n.0 c.requires.tables.few _ _ _ l.invariant.2 _ says in record { limits = c.requires.limits; tables = c.requires.tables; order_len = (l.invariant.0, l.invariant.1, (a.free, l.bound, lowers _ _ _ c.requires.limits _ _ _ _ l.invariant.2 _ says w.bounded.0)) }
 
-pub loop-end-smaller : goal.loop-end-smaller
-loop-end-smaller c =
+pub loop-desk-smaller : goal.loop-desk-smaller
+loop-desk-smaller c =
     let a = c.args in
-    let l = c.loop-end in
+    let l = c.loop-desk in
     let job = columns a.release.now a.minutes.now a.due.now in
-    let says = sym c.answer.ensures ∙ c.in-Kept.is in
+    let says = sym c.answer.ensures ∙ c.in-Some.is in
     let w = answered _ _ _ c.requires.limits _ c.requires.le_n.0 c.requires.tables.few _ _ _ l.invariant.2 _ says in
     omega (arith, w.bounded)
 
-pub loop-end-preserved : goal.loop-end-preserved
-loop-end-preserved c =
+pub loop-desk-preserved : goal.loop-desk-preserved
+loop-desk-preserved c =
     let a = c.args in
-    let l = c.loop-end in
+    let l = c.loop-desk in
     let job = columns a.release.now a.minutes.now a.due.now in
-    let says = sym c.answer.ensures ∙ c.in-Kept.is in
+    let says = sym c.answer.ensures ∙ c.in-Some.is in
     let w = answered _ _ _ c.requires.limits _ c.requires.le_n.0 c.requires.tables.few _ _ _ l.invariant.2 _ says in
     let r = c.resume-reached in (
       r.ensures.0,
       r.ensures.1,
-      r.ensures.2 a.free l.bound (lowers _ _ _ c.requires.limits _ _ _ _ l.invariant.2 _ _ says w.bounded.0),
+      r.ensures.2 a.free l.bound (lowers _ _ _ c.requires.limits _ _ _ _ l.invariant.2 _ says w.bounded.0),
       listing_next job a.n a.free c.requires.limits c.requires.le_n.0 c.requires.tables.few c.requires.le_n.1 c.requires.le_n.3
-          (record { count = l.count; ends = l.ends; lates = l.lates }) l.bound l.invariant.3 c.in-Kept.end c.in-Kept.late w _
+          (record { count = l.count; ends = l.ends; lates = l.lates }) l.bound l.invariant.3 c.in-Some.desk w _
           c.put_pair-count.ensures,
       r.auto.trail ∙ l.invariant.4,
     )

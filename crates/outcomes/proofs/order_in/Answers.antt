@@ -27,8 +27,8 @@ returns-in_default c =
 pub returns : goal.returns
 returns c =
     let w = c.lower in
-    ap (λ (z : ℤ). gives (Ok (record { end = c.in-Kept.end; late = z })) c.order_for.new.out)
-    (lowered_word c.in-Kept.late w.result (omega arith) w.ensures) ∙
+    ap (λ (z : ℤ). gives (Ok (record { end = c.in-Some.desk.minute; late = z })) c.order_for.new.out)
+    (lowered_word c.in-Some.desk.worst w.result (omega arith) w.ensures) ∙
     order_kept c.requires c.args.bound c.args.res.now
-    c.if-res-n.false c.order_for.result _ c.order_for.ensures c.in-Kept.end c.in-Kept.late
-    c.in-Kept.is
+    c.if-res-n.false c.order_for.result _ c.order_for.ensures c.in-Some.desk
+    c.in-Some.is
