@@ -39,8 +39,8 @@ fn keeps_both(desk: Desk, end: u32, bound: u32) -> bool
     desk.worst <= bound && u64::from(desk.minute) + 2_147_483_648 <= u64::from(end)
 }
 
-// The latest minute at which the order for the bound keeps both, of rows by rank: `low` does, and no minute past `high`. There is none where
-// not even minute 0 does.
+// The latest minute at which the order for the bound keeps both, of rows by rank: `low` does, and no minute past `high`. There is none
+// where not even minute 0 does.
 fn halve(
     release: &[u32; Desk::PLACES],
     minutes: &[u32; Desk::PLACES],

@@ -8,7 +8,11 @@ use Rattle.latest_search.proofs.Found.{halved_found, middle_between, upper_half,
 use Rattle.latest_search.proofs.halve.Goals as goal
 
 pub plan_for-first-requires : goal.plan_for-first-requires
-plan_for-first-requires c = record { limits = c.requires.limits; tables = c.requires.tables; le_n = (c.requires.le_n, omega (arith, c.requires.tables.few), search rules) }
+plan_for-first-requires c = record {
+  limits = c.requires.limits;
+  tables = c.requires.tables;
+  le_n = (c.requires.le_n, omega (arith, c.requires.tables.few), search rules);
+}
 
 pub returns-then-not-keeps_both : goal.returns-then-not-keeps_both
 returns-then-not-keeps_both c =
@@ -24,7 +28,12 @@ loop-low-init c =
 
 pub plan_for-s-requires : goal.plan_for-s-requires
 plan_for-s-requires c =
-    let l = c.loop-low.invariant in record { limits = c.requires.limits; tables = c.requires.tables; le_n = (c.requires.le_n, omega (arith, c.requires.tables.few, l.0.high_within), l.1) }
+    let l = c.loop-low.invariant in
+    record {
+      limits = c.requires.limits;
+      tables = c.requires.tables;
+      le_n = (c.requires.le_n, omega (arith, c.requires.tables.few, l.0.high_within), l.1);
+    }
 
 pub loop-low-smaller : goal.loop-low-smaller
 loop-low-smaller c =

@@ -11,7 +11,12 @@ tables-requires c = record { limits = c.requires.limits; n_le_most_rows = (c.req
 
 pub halve-requires : goal.halve-requires
 halve-requires c =
-    let t = c.tables.ensures in record { limits = limits_ranked t c.requires.limits; tables = tables t c.requires.limits c.requires.le_n.1; le_n = c.requires.le_n.0 }
+    let t = c.tables.ensures in
+    record {
+      limits = limits_ranked t c.requires.limits;
+      tables = tables t c.requires.limits c.requires.le_n.1;
+      le_n = c.requires.le_n.0;
+    }
 
 pub returns-in_err-found : goal.returns-in_err-found
 returns-in_err-found c =
