@@ -7,6 +7,8 @@ use mathlib.Core.List.{List, Memᴰ}
 use mathlib.Core.Option.{Option, none, some}
 use lib.ListN.{length}
 use lib.IntN.{ℤ}
+use Rattle.std.specs.Prelude.{Result, Ok, Err, Some, None, ok_or}
+use Rattle.std.specs.Prelude.{Option as Found}
 use Rattle.theory.specs.Jobs.{Job}
 use Rattle.schedule.specs.Limits.{latest_minute}
 use Rattle.schedule.specs.declared.Profile.TheVariants.{Ordering}
@@ -17,7 +19,9 @@ use Rattle.schedule.proofs.Orders.{perm_count, perm_all}
 use Rattle.schedule.proofs.Numbers.{length_count}
 use Rattle.schedule.proofs.Cover.{promised}
 use Rattle.schedule.proofs.SameJobs.{same_pair}
-use Rattle.refusals.specs.declared.Tested.TheVariants.{Passed}
+use Rattle.refusals.specs.declared.Refusal.{Refusal}
+use Rattle.refusals.specs.Tests.{refusal_at}
+use Rattle.refusals.proofs.Tests.{never}
 use Rattle.search.proofs.Signs.{late_lowers}
 use Rattle.arrival.specs.Given.{written_of}
 use Rattle.results.specs.Results.{written}
@@ -32,17 +36,14 @@ use Rattle.how_late.specs.Latest.{OrderFrom, latest_order}
 use Rattle.how_late.proofs.Latest.{how_late}
 use Rattle.how_late.proofs.SameJobs.{order_same}
 use Rattle.latest_search.specs.declared.Latest.{Latest}
-use Rattle.latest_search.specs.declared.Latest.TheVariants.{At, Never}
 use Rattle.latest_search.specs.Found.{latest_of, order_of, LatestGiven}
-use Rattle.latest_free.specs.declared.LatestAnswer.{LatestAnswer}
-use Rattle.latest_free.specs.declared.LatestAnswer.TheVariants as latest-answer
-use Rattle.latest_free.specs.Calls.{from_outcome, latest_outcome, latest_call}
+use Rattle.latest_free.specs.Calls.{LatestAnswer, from_outcome, latest_outcome, latest_call}
 use Rattle.latest_free.proofs.Outcomes.{latest_narrow, latest_is, call_of}
 
 -- What is answered once the latest free minute is found.
-abbrev answer_of : Latest → LatestAnswer
-answer_of (At t e y) = latest-answer.From t e (lowered y)
-answer_of Never = latest-answer.Refused 17 0
+abbrev answer_of : Found Latest → LatestAnswer
+answer_of (Some r) = Ok (record { minute = r.minute; end = r.end; late = lowered r.late })
+answer_of None = Err (refusal_at 17 0)
 
 module _ {job : ℕ → Job} {n : ℕ} (p : Plannable Ordering job latest_minute n) (end late : ℤ) (b : List ℕ) where
   abbrev answer : Option OrderFrom
@@ -57,16 +58,17 @@ module _ {job : ℕ → Job} {n : ℕ} (p : Plannable Ordering job latest_minute
       let o = ((((how_late job (count_from 1 n) end late).1 p.rule some_row).order_from s).0 e).1 in
       ((promised job s.minute (count_from 1 n) p.rule some_row).best late s.order o).0
 
-  pub answer_narrow : length b < n → gives (latest-answer.Refused 9 0) b ≡ latest_outcome job (count_from 1 n) end late b
+  pub answer_narrow : length b < n → gives (Err (refusal_at 9 0)) b ≡ latest_outcome job (count_from 1 n) end late b
   answer_narrow h = sym (latest_narrow job (count_from 1 n) end late b (omega (arith, length_count 1 n)))
 
-  answer_found : n ≤ length b → (r : Latest) (after : List ℕ) → LatestGiven job answer b r after →
+  answer_found : n ≤ length b → (r : Found Latest) (after : List ℕ) → LatestGiven job answer b r after →
       gives (answer_of r) after ≡ latest_outcome job (count_from 1 n) end late b
   unfolding latest_of order_of written_of from_outcome written
   answer_found wide r after g = step answer refl ∙ sym (latest_is job (count_from 1 n) end late b (omega (arith, length_count 1 n)))
     where
       -- What is given, of a minute and order that are known.
-      known : (x : Option OrderFrom) → answer ≡ x → gives (answer_of r) after ≡ gives (answer_of (latest_of job x)) (written_of (order_of x) b)
+      known : (x : Option OrderFrom) → answer ≡ x →
+          gives (answer_of r) after ≡ gives (answer_of (latest_of job x)) (written_of (order_of x) b)
       known x e = λ i.
           gives (answer_of ((g.answered ∙ ap (latest_of job) e) i))
           ((g.buffer ∙ ap (λ (o : Option OrderFrom). written_of (order_of o) b) e) i)
@@ -82,18 +84,20 @@ module _ {job : ℕ → Job} {n : ℕ} (p : Plannable Ordering job latest_minute
       step none e = known none e ∙ ap (λ (o : Option OrderFrom). from_outcome job o b) (sym e)
       step (some s) e =
           known (some s) e ∙
-          (ap (λ (y : ℤ). gives (latest-answer.From s.minute (end_of job s.minute s.order) y) (written s.order b))
+          (ap (λ (y : ℤ). gives (Ok (record { minute = s.minute; end = end_of job s.minute s.order; late = y })) (written s.order b))
           (lowers s e) ∙ ap (λ (o : Option OrderFrom). from_outcome job o b) (sym e))
 
-  pub answer_never : n ≤ length b → (r : Latest) (after : List ℕ) → LatestGiven job answer b r after → r ≡ Never →
-      gives (latest-answer.Refused 17 0) after ≡ latest_outcome job (count_from 1 n) end late b
-  answer_never wide r after g e = ap (λ (x : Latest). gives (answer_of x) after) (sym e) ∙ answer_found wide r after g
+  pub answer_never : n ≤ length b → (r : Found Latest) (after : List ℕ) → LatestGiven job answer b r after → (refusal : Refusal) →
+      ok_or r (refusal_at 17 0) ≡ Err refusal → gives (Err refusal) after ≡ latest_outcome job (count_from 1 n) end late b
+  answer_never wide None after g refusal e = let same : refusal_at 17 0 ≡ refusal = cc in rw (← same) (answer_found wide None after g)
+  answer_never wide (Some found) after g refusal e = never (cc)
 
-  pub answer_from : n ≤ length b → (r : Latest) (after : List ℕ) → LatestGiven job answer b r after → (t e y : ℕ) → r ≡ At t e y → (z : ℤ) →
-      z ≡ lowered y → gives (latest-answer.From t e z) after ≡ latest_outcome job (count_from 1 n) end late b
-  answer_from wide r after g t e y is z lower =
-      ap (λ (z : ℤ). gives (latest-answer.From t e z) after) lower ∙
-      (ap (λ (x : Latest). gives (answer_of x) after) (sym is) ∙ answer_found wide r after g)
+  pub answer_from : n ≤ length b → (r : Found Latest) (after : List ℕ) → LatestGiven job answer b r after → (found : Latest) →
+      r ≡ Some found → (z : ℤ) → z ≡ lowered found.late →
+      gives (Ok (record { minute = found.minute; end = found.end; late = z })) after ≡ latest_outcome job (count_from 1 n) end late b
+  answer_from wide r after g found is z lower =
+      ap (λ (z : ℤ). gives {A = LatestAnswer} (Ok (record { minute = found.minute; end = found.end; late = z })) after) lower ∙
+      (ap (λ (x : Found Latest). gives (answer_of x) after) (sym is) ∙ answer_found wide r after g)
 
   -- Jobs that are the same on the rows.
   module _ (job' : ℕ → Job) (alike : (i : ℕ) → Memᴰ i (count_from 1 n) → job i ≡ job' i) where
@@ -101,7 +105,7 @@ module _ {job : ℕ → Job} {n : ℕ} (p : Plannable Ordering job latest_minute
     unfolding from_outcome
     from_alike none e = refl
     from_alike (some s) e =
-        ap (λ (q : Pair). gives (latest-answer.From s.minute q.end q.late) (written s.order b))
+        ap (λ (q : Pair). gives (Ok (record { minute = s.minute; end = q.end; late = q.late })) (written s.order b))
         (same_pair job job' s.minute s.order (perm_all (λ i. job i ≡ job' i) (whole s e) alike))
 
     pub same_outcome : latest_outcome job (count_from 1 n) end late b ≡ latest_outcome job' (count_from 1 n) end late b
@@ -124,10 +128,10 @@ pub record Ready (opening : ℕ) (book : List ℕ) (r : Given) : Type 0 where
   pub is_call : (end late : ℤ) (b : List ℕ) →
       latest_outcome (jobs_of r.columns) (count_from 1 r.count) end late b ≡ latest_call opening book end late b
 
-pub ready : (opening : ℕ) (book : List ℕ) (r : Given) → Gives opening (read_by (ordering_rule opening) book) r → r.outcome ≡ Passed →
-    Ready opening book r
-ready opening book r g o =
-    let d = given_passed (read_by (ordering_rule opening) book) r g o in
+pub ready : (opening : ℕ) (book : List ℕ) (r : Result Given Refusal) (given : Given) →
+    Gives opening (read_by (ordering_rule opening) book) r → r ≡ Ok given → Ready opening book given
+ready opening book x r g e =
+    let d = given_passed opening (read_by (ordering_rule opening) book) x r g e in
     let k = plannable (ordering_rule opening) book r d.day d.contents d.free d.count d.columns in
     let alike = same (ordering_rule opening) book r d.day d.contents d.free d.count d.columns in
     let can : Plannable Ordering (jobs_of r.columns) latest_minute r.count =

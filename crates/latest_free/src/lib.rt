@@ -12,16 +12,16 @@ ghost use Rattle.outcomes.specs.Planning.{gives};
 ghost use Rattle.outcomes.specs.Plannable.{Plannable};
 ghost use Rattle.latest_free.specs.Calls.{latest_outcome, latest_call};
 
-use latest_search::Latest;
 use readers::Terms;
-use refusals::Tested;
+use refusals::Refusal;
 use schedule::{Desk, Profile};
 
-// The answer: the latest free minute, and the end and worst lateness of the order from it; or the refusal.
+// What is answered: the latest free minute, and the end and worst lateness of the order from it.
 #[derive(Clone, Copy)]
-pub enum LatestAnswer {
-    From(u32, u32, i32),
-    Refused(u32, usize),
+pub struct LatestStart {
+    pub minute: u32,
+    pub end: u32,
+    pub late: i32,
 }
 
 // The latest free minute of rows in columns at which some order keeps a wanted end and lateness, both raised by 2^31; refused where the
@@ -34,38 +34,47 @@ fn latest_in<'a>(
     end: u32,
     bound: u32,
     res: &mut [u32],
-) -> LatestAnswer
+) -> Result<LatestStart, Refusal>
     requires { Plannable Ordering (columns release.now minutes.now due.now) latest_minute n }
     ensures { gives result res.new ≡
         latest_outcome (columns release.now minutes.now due.now) (count_from 1 n) (lowered end)
         (lowered bound) res.old }
 {
     if res.len() < n {
-        return LatestAnswer::Refused(Tested::NARROW, 0);
+        return Err(Refusal {
+            number: Refusal::NARROW,
+            place: 0,
+        });
     }
-    let Latest::At(minute, own_end, late) = latest_search::latest_for(
-        release, minutes, due, n, end, bound, res,
-    ) else {
-        return LatestAnswer::Refused(Tested::UNREACHABLE, 0);
-    };
-    LatestAnswer::From(minute, own_end, schedule::lower(late))
+    let found = latest_search::latest_for(release, minutes, due, n, end, bound, res);
+    let latest = found.ok_or(Refusal {
+        number: Refusal::UNREACHABLE,
+        place: 0,
+    })?;
+    Ok(LatestStart {
+        minute: latest.minute,
+        end: latest.end,
+        late: schedule::lower(latest.late),
+    })
 }
 
 // The latest free minute, from 0 to 10,000,000, at which some order of the rows keeps the wanted end and the wanted lateness; with the
 // order for that lateness from it, and its own pair. The book's own free word is read and tested, and not used.
-pub fn latest_free(opening: u32, book: &[u32], end: i32, late: i32, res: &mut [u32]) -> LatestAnswer
+pub fn latest_free(
+    opening: u32,
+    book: &[u32],
+    end: i32,
+    late: i32,
+    res: &mut [u32],
+) -> Result<LatestStart, Refusal>
     ensures { gives result res.new ≡
         latest_call opening book.now end late res.old }
 {
     let terms = Terms {
         profile: Profile::Ordering,
-        opening: opening,
+        opening,
     };
-    let given = readers::read(terms, book);
-    let outcome = given.outcome;
-    if let Tested::Refused(number, place) = outcome {
-        return LatestAnswer::Refused(number, place);
-    }
+    let given = readers::read(terms, book)?;
     latest_in(
         &given.columns.release,
         &given.columns.length,

@@ -22,8 +22,7 @@ use Rattle.picks.specs.declared.Standing.{Standing}
 use Rattle.search.specs.Searched.{Searched}
 use Rattle.search.proofs.Signs.{followed_end}
 use Rattle.how_late.specs.Laws.{ends_by}
-use Rattle.latest_search.specs.declared.Halving.{Halving}
-use Rattle.latest_search.specs.Found.{in_time_at, Reached, Halved}
+use Rattle.latest_search.specs.Found.{in_time_at, Reached, HalvedAt}
 use Rattle.latest_search.specs.Halvings.{halvings}
 use Rattle.latest_search.proofs.Halvings.{halvings_fall}
 
@@ -103,23 +102,14 @@ module _ (job : ℕ → Job) (limits : Limits job) (n end bound : ℕ) where
       }
 
   pub halved_found : (low high : ℕ) (desk : Desk) (best : List ℕ) → Between job n end bound low high desk best → high ≤ low →
-      Halved job n end bound (record { found = true; minute = low; desk = desk; order = best })
+      HalvedAt job n end bound (record { minute = low; desk = desk; order = best })
   halved_found low high desk best b l =
       let e : high ≡ low = omega (arith, b.ordered) in
       record {
-        never = λ f. absurd (false_is_true (sym f));
-        within = λ f. omega (arith, b.ordered, b.high_within);
-        reached = λ f. b.low_reached;
-        next = λ f h. subst (λ (t : ℕ). t < latest_minute → in_time_at job n end bound (suc t) ≡ false) e b.above h;
+        within = omega (arith, b.ordered, b.high_within);
+        reached = b.low_reached;
+        next = λ h. subst (λ (t : ℕ). t < latest_minute → in_time_at job n end bound (suc t) ≡ false) e b.above h;
       }
-
-  pub halved_never : (r : Halving) → r.found ≡ false → in_time_at job n end bound 0 ≡ false → Halved job n end bound r
-  halved_never r f e = record {
-    never = λ g. e;
-    within = λ g. false_is_true (sym f ∙ g);
-    reached = λ g. false_is_true (sym f ∙ g);
-    next = λ g. false_is_true (sym f ∙ g);
-  }
 
 -- The middle of two minutes; on either side of it there are fewer halvings left.
 pub middle_between : (low high : ℕ) → low < high → (low < high - (high - low) / 2) × (high - (high - low) / 2 ≤ high)

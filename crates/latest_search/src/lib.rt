@@ -16,17 +16,17 @@ ghost use Rattle.latest_search.specs.Found.{Halved, LatestGiven};
 
 use schedule::Desk;
 
-// The latest free minute, with the end and the raised worst lateness of its order; or not even minute 0 allows both.
+// The latest free minute, with the end and the raised worst lateness of its order.
 #[derive(Clone, Copy)]
-pub enum Latest {
-    At(u32, u32, u32),
-    Never,
+pub struct Latest {
+    pub minute: u32,
+    pub end: u32,
+    pub late: u32,
 }
 
-// What halving the minutes comes to: whether there is a minute, and then the latest, the desk after its order, and the order.
+// What halving the minutes comes to: the latest minute, the desk after its order, and the order.
 #[derive(Drop)]
 pub struct Halving {
-    pub found: bool,
     pub minute: u32,
     pub desk: Desk,
     pub order: [u32; Desk::ROWS],
@@ -39,7 +39,8 @@ fn keeps_both(desk: Desk, end: u32, bound: u32) -> bool
     desk.worst <= bound && u64::from(desk.minute) + 2_147_483_648 <= u64::from(end)
 }
 
-// The latest minute at which the order for the bound keeps both, of rows by rank: `low` does, and no minute past `high`.
+// The latest minute at which the order for the bound keeps both, of rows by rank: `low` does, and no minute past `high`. There is none
+// where not even minute 0 does.
 fn halve(
     release: &[u32; Desk::PLACES],
     minutes: &[u32; Desk::PLACES],
@@ -48,7 +49,7 @@ fn halve(
     n: usize,
     end: u32,
     bound: u32,
-) -> Halving
+) -> Option<Halving>
     requires limits { Limits (columns release.now minutes.now due.now) }
     requires tables { Tables n (columns release.now minutes.now due.now) (at by.now) }
     requires le_n { 1 ≤ n }
@@ -56,17 +57,12 @@ fn halve(
 {
     let mut order: [u32; Desk::ROWS] = [0; Desk::ROWS];
     let first = search::plan_for(release, minutes, due, by, n, 0, bound, &mut order);
+    if !keeps_both(first.desk, end, bound) {
+        return None;
+    }
     let mut best = order;
     let mut desk = first.desk;
     let mut low: u32 = 0;
-    if !keeps_both(desk, end, bound) {
-        return Halving {
-            found: false,
-            minute: low,
-            desk,
-            order: best,
-        };
-    }
     let mut high: u32 = Desk::MINUTES;
     while low < high {
         let middle = high - (high - low) / 2;
@@ -79,12 +75,11 @@ fn halve(
             high = middle - 1;
         }
     }
-    Halving {
-        found: true,
+    Some(Halving {
         minute: low,
         desk,
         order: best,
-    }
+    })
 }
 
 // The latest free minute at which some order of the rows 1 to n keeps both, with the order for the bound from it, which is written to the
@@ -97,7 +92,7 @@ pub fn latest_for<'a>(
     end: u32,
     bound: u32,
     out: &mut [u32],
-) -> Latest
+) -> Option<Latest>
     requires limits { Limits (columns release.now minutes.now due.now) }
     requires le_n { (1 ≤ n) × (n ≤ most_rows) × Agreeing (columns release.now minutes.now due.now) (count_from 1 n) ×
         (n ≤ length out.old) }
@@ -121,10 +116,11 @@ pub fn latest_for<'a>(
         &mut dues,
         &mut by,
     );
-    let latest = halve(&releases, &lengths, &dues, &by, n, end, bound);
-    if !latest.found {
-        return Latest::Never;
-    }
-    plans::write_order(&latest.order, &rows, n, out);
-    Latest::At(latest.minute, latest.desk.minute, latest.desk.worst)
+    let found = halve(&releases, &lengths, &dues, &by, n, end, bound)?;
+    plans::write_order(&found.order, &rows, n, out);
+    Some(Latest {
+        minute: found.minute,
+        end: found.desk.minute,
+        late: found.desk.worst,
+    })
 }

@@ -3,19 +3,21 @@
 -- Assumes nothing.
 use borrow.Author.Rules.{rules}
 use native.Mathlib.Omega.{arith}
-use mathlib.Core.Path.{refl}
 use Rattle.latest_search.proofs.Found.{not_in_time, reached_at, between_first, between_later, between_sooner}
-use Rattle.latest_search.proofs.Found.{halved_found, halved_never, middle_between, upper_half, lower_half}
+use Rattle.latest_search.proofs.Found.{halved_found, middle_between, upper_half, lower_half}
 use Rattle.latest_search.proofs.halve.Goals as goal
 
 pub plan_for-first-requires : goal.plan_for-first-requires
-plan_for-first-requires c = record { limits = c.requires.limits; tables = c.requires.tables; le_n = (c.requires.le_n, omega (arith, c.requires.tables.few), search rules) }
+plan_for-first-requires c = record {
+  limits = c.requires.limits;
+  tables = c.requires.tables;
+  le_n = (c.requires.le_n, omega (arith, c.requires.tables.few), search rules);
+}
 
 pub returns-then-not-keeps_both : goal.returns-then-not-keeps_both
 returns-then-not-keeps_both c =
     let limits = c.requires.limits in
-    let late = not_in_time _ limits _ _ _ 0 _ _ c.plan_for-first.ensures _ c.keeps_both.ensures (c.if-not-keeps_both.true) in
-    halved_never _ limits _ _ _ _ refl late
+    not_in_time _ limits _ _ _ 0 _ _ c.plan_for-first.ensures _ c.keeps_both.ensures (c.if-not-keeps_both.true)
 
 pub loop-low-init : goal.loop-low-init
 loop-low-init c =
@@ -26,7 +28,12 @@ loop-low-init c =
 
 pub plan_for-s-requires : goal.plan_for-s-requires
 plan_for-s-requires c =
-    let l = c.loop-low.invariant in record { limits = c.requires.limits; tables = c.requires.tables; le_n = (c.requires.le_n, omega (arith, c.requires.tables.few, l.0.high_within), l.1) }
+    let l = c.loop-low.invariant in
+    record {
+      limits = c.requires.limits;
+      tables = c.requires.tables;
+      le_n = (c.requires.le_n, omega (arith, c.requires.tables.few, l.0.high_within), l.1);
+    }
 
 pub loop-low-smaller : goal.loop-low-smaller
 loop-low-smaller c =
