@@ -1,20 +1,20 @@
 // What crosses the C boundary: one struct for every answer, and each case of an answer in it.
 #![tactic(auto)]
 
-ghost use Rattle.std.specs.Prelude.{◌≡◌};
+ghost use Rattle.std.specs.Prelude.{◌≡◌, Ok};
 ghost use Rattle.calls.specs.Answers.{said_no, said_list, said_order, said_verdict, said_place};
 ghost use Rattle.open_desk.specs.Answers.{said_open, said_start, said_pace};
 ghost use Rattle.several.specs.Answers.{said_several};
 ghost use Rattle.latest_free.specs.Answers.{said_latest};
 ghost use Rattle.answers.specs.Boundary.{answer_of, answer_of_desks};
 
-use desk_open::OpenAnswer;
-use desk_pace::PaceAnswer;
-use desk_start::StartAnswer;
-use latest_free::LatestAnswer;
-use outcomes::{ListAnswer, OrderAnswer, VerdictAnswer};
-use row_calls::RowPlace;
-use several::SeveralAnswer;
+use desk_open::Opened;
+use desk_start::Stand;
+use latest_free::LatestStart;
+use outcomes::{Attained, Verdict};
+use refusals::Refusal;
+use several::Chosen;
+use several_books::DeskRefusal;
 
 // What every call answers: the refusal's number, 0 for none, and its place, or the place of a row's number word; the count of plans, the
 // first plan that beats a posting, 0 for none, or the rows of an opened desk; end and worst lateness, or the worst lateness so far of an
@@ -33,133 +33,141 @@ pub struct Answer {
     pub overtime: u32,
 }
 
-fn refused(number: u32, place: usize) -> Answer
-    ensures { result ≡ answer_of (said_no number place) }
+fn refused(refusal: Refusal) -> Answer
+    ensures { result ≡ answer_of (said_no refusal.number refusal.place) }
 {
     Answer {
-        place,
-        refusal: number,
+        place: refusal.place,
+        refusal: refusal.number,
         ..Answer::default()
     }
 }
 
-pub fn of_list(answer: ListAnswer) -> Answer
-    ensures { result ≡ answer_of (said_list answer) }
+pub fn of_list(list: Result<usize, Refusal>) -> Answer
+    ensures { result ≡ answer_of (said_list list) }
 {
-    match answer {
-        ListAnswer::Plans(count) => Answer {
+    match list {
+        Ok(count) => Answer {
             count,
             ..Answer::default()
         },
-        ListAnswer::Refused(number, place) => refused(number, place),
+        Err(refusal) => refused(refusal),
     }
 }
 
-pub fn of_order(answer: OrderAnswer) -> Answer
-    ensures { result ≡ answer_of (said_order answer) }
+pub fn of_order(order: Result<Attained, Refusal>) -> Answer
+    ensures { result ≡ answer_of (said_order order) }
 {
-    match answer {
-        OrderAnswer::Pair(end, late) => Answer {
+    match order {
+        Ok(attained) => Answer {
+            end: attained.end,
+            late: attained.late,
+            ..Answer::default()
+        },
+        Err(refusal) => refused(refusal),
+    }
+}
+
+fn judged(given: Verdict) -> Answer
+    ensures { result ≡ answer_of (said_verdict (Ok given)) }
+{
+    match given {
+        Verdict::Unbeaten(end, late) => Answer {
             end,
             late,
             ..Answer::default()
         },
-        OrderAnswer::Refused(number, place) => refused(number, place),
-    }
-}
-
-pub fn of_verdict(answer: VerdictAnswer) -> Answer
-    ensures { result ≡ answer_of (said_verdict answer) }
-{
-    match answer {
-        VerdictAnswer::Unbeaten(end, late) => Answer {
-            end,
-            late,
-            ..Answer::default()
-        },
-        VerdictAnswer::Beaten(end, late, plan) => Answer {
+        Verdict::Beaten(end, late, plan) => Answer {
             count: plan,
             end,
             late,
             ..Answer::default()
         },
-        VerdictAnswer::Refused(number, place) => refused(number, place),
     }
 }
 
-pub fn of_place(answer: RowPlace) -> Answer
-    ensures { result ≡ answer_of (said_place answer) }
+pub fn of_verdict(verdict: Result<Verdict, Refusal>) -> Answer
+    ensures { result ≡ answer_of (said_verdict verdict) }
 {
-    match answer {
-        RowPlace::At(place) => Answer {
+    match verdict {
+        Ok(given) => judged(given),
+        Err(refusal) => refused(refusal),
+    }
+}
+
+pub fn of_place(row: Result<usize, Refusal>) -> Answer
+    ensures { result ≡ answer_of (said_place row) }
+{
+    match row {
+        Ok(place) => Answer {
             place,
             ..Answer::default()
         },
-        RowPlace::Refused(number, place) => refused(number, place),
+        Err(refusal) => refused(refusal),
     }
 }
 
-pub fn of_open(answer: OpenAnswer) -> Answer
-    ensures { result ≡ answer_of (said_open answer) }
+pub fn of_open(opening: Result<Opened, Refusal>) -> Answer
+    ensures { result ≡ answer_of (said_open opening) }
 {
-    match answer {
-        OpenAnswer::Opened(rows, minute) => Answer {
-            count: rows,
-            minute,
+    match opening {
+        Ok(opened) => Answer {
+            count: opened.rows,
+            minute: opened.minute,
             ..Answer::default()
         },
-        OpenAnswer::Refused(number, place) => refused(number, place),
+        Err(refusal) => refused(refusal),
     }
 }
 
-pub fn of_start(answer: StartAnswer) -> Answer
-    ensures { result ≡ answer_of (said_start answer) }
+pub fn of_start(start: Result<Stand, Refusal>) -> Answer
+    ensures { result ≡ answer_of (said_start start) }
 {
-    match answer {
-        StartAnswer::Moved(minute, worst) => Answer {
-            late: worst,
-            minute,
+    match start {
+        Ok(stand) => Answer {
+            late: stand.late,
+            minute: stand.minute,
             ..Answer::default()
         },
-        StartAnswer::Refused(number, place) => refused(number, place),
+        Err(refusal) => refused(refusal),
     }
 }
 
-pub fn of_pace(answer: PaceAnswer) -> Answer
-    ensures { result ≡ answer_of (said_pace answer) }
+pub fn of_pace(change: Result<(), Refusal>) -> Answer
+    ensures { result ≡ answer_of (said_pace change) }
 {
-    match answer {
-        PaceAnswer::Changed => Answer::default(),
-        PaceAnswer::Refused(number, place) => refused(number, place),
+    match change {
+        Ok(()) => Answer::default(),
+        Err(refusal) => refused(refusal),
     }
 }
 
-pub fn of_several(answer: SeveralAnswer) -> Answer
-    ensures { result ≡ answer_of_desks (said_several answer) }
+pub fn of_several(choice: Result<Chosen, DeskRefusal>) -> Answer
+    ensures { result ≡ answer_of_desks (said_several choice) }
 {
-    match answer {
-        SeveralAnswer::Chosen(late, overtime) => Answer {
-            late,
-            overtime,
+    match choice {
+        Ok(chosen) => Answer {
+            late: chosen.late,
+            overtime: chosen.overtime,
             ..Answer::default()
         },
-        SeveralAnswer::Refused(number, at, desk) => Answer {
-            desk,
-            ..refused(number, at)
+        Err(turned) => Answer {
+            desk: turned.desk,
+            ..refused(turned.refusal)
         },
     }
 }
 
-pub fn of_latest(answer: LatestAnswer) -> Answer
-    ensures { result ≡ answer_of (said_latest answer) }
+pub fn of_latest(start: Result<LatestStart, Refusal>) -> Answer
+    ensures { result ≡ answer_of (said_latest start) }
 {
-    match answer {
-        LatestAnswer::From(free, end, late) => Answer {
-            end,
-            late,
-            minute: free,
+    match start {
+        Ok(latest) => Answer {
+            end: latest.end,
+            late: latest.late,
+            minute: latest.minute,
             ..Answer::default()
         },
-        LatestAnswer::Refused(number, place) => refused(number, place),
+        Err(refusal) => refused(refusal),
     }
 }

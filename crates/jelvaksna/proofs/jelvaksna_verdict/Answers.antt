@@ -1,7 +1,7 @@
 -- `jelvaksna_verdict` meets its contract: the call's, through the answer's fields.
 -- Assumes nothing.
 use mathlib.Core.Path.{ap, ◌∙◌}
-use Rattle.outcomes.specs.declared.VerdictAnswer.{VerdictAnswer}
+use Rattle.outcomes.specs.Outcomes.{VerdictAnswer}
 use Rattle.calls.specs.Answers.{said_verdict}
 use Rattle.answers.specs.Boundary.{answer_of}
 use Rattle.jelvaksna.proofs.jelvaksna_verdict.Goals as goal
