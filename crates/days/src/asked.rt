@@ -1,33 +1,16 @@
 // The offered calls. All that is asked of the planner and of the book's reader is asked here.
-use outcomes::{ListAnswer, OrderAnswer, VerdictAnswer};
-use row_calls::RowPlace;
+use outcomes::{Attained, Verdict};
+use refusals::Refusal;
 use schedule::Desk;
 use std::fmt;
 
-// Why a call is refused: a number of the table of refusals, and a place.
-#[derive(Clone, Copy, PartialEq, Eq)]
-pub struct Refusal {
-    pub number: u32,
-    pub place: usize,
-}
+// A refusal as it is printed: its number at its place.
+#[derive(Clone, Copy)]
+pub struct Told(pub Refusal);
 
-impl Refusal {
-    pub const CUT: u32 = 1;
-
-    pub const KIND: u32 = 2;
-
-    pub const RANGE: u32 = 3;
-
-    pub const TWICE: u32 = 4;
-
-    pub const DISORDER: u32 = 8;
-
-    const NOT_POSTING: u32 = 10;
-}
-
-impl fmt::Display for Refusal {
+impl fmt::Display for Told {
     fn fmt<W: fmt::Write>(&self, f: &mut fmt::Formatter<W>) -> fmt::Result {
-        write!(f, "{}@{}", self.number, self.place)
+        write!(f, "{}@{}", self.0.number, self.0.place)
     }
 }
 
@@ -75,53 +58,38 @@ impl fmt::Display for Given {
     }
 }
 
-fn list(opening: u32, book: &[u32], words: &mut [u32]) -> Result<usize, Refusal> {
-    match planner::list(opening, book, words) {
-        ListAnswer::Plans(count) => Ok(count),
-        ListAnswer::Refused(number, place) => Err(Refusal { number, place }),
-    }
-}
-
-fn ordered(answer: OrderAnswer) -> Result<Pair, Refusal> {
-    match answer {
-        OrderAnswer::Pair(end, late) => Ok(Pair { end, late }),
-        OrderAnswer::Refused(number, place) => Err(Refusal { number, place }),
-    }
+fn ordered(attained: Attained) -> Given {
+    Given::Order(Pair {
+        end: attained.end,
+        late: attained.late,
+    })
 }
 
 pub fn ask(call: Call, opening: u32, book: &[u32], words: &mut [u32]) -> Result<Given, Refusal> {
     match call {
-        Call::List => Ok(Given::Plans(list(opening, book, words)?)),
-        Call::OrderOfPlan(plan) => {
-            let answer = planner::order_of_plan(opening, book, plan, words);
-            Ok(Given::Order(ordered(answer)?))
-        }
-        Call::OrderForBound(bound) => {
-            let answer = planner::order_for_bound(opening, book, bound, words);
-            Ok(Given::Order(ordered(answer)?))
-        }
+        Call::List => Ok(Given::Plans(planner::list(opening, book, words)?)),
+        Call::OrderOfPlan(plan) => Ok(ordered(planner::order_of_plan(opening, book, plan, words)?)),
+        Call::OrderForBound(bound) => Ok(ordered(planner::order_for_bound(
+            opening, book, bound, words,
+        )?)),
     }
 }
 
 pub fn verdict(opening: u32, book: &[u32], posting: &[u32]) -> Result<Judged, Refusal> {
-    match planner::verdict(opening, book, posting) {
-        VerdictAnswer::Unbeaten(end, late) => Ok(Judged {
+    match planner::verdict(opening, book, posting)? {
+        Verdict::Unbeaten(end, late) => Ok(Judged {
             pair: Pair { end, late },
             beaten_by: None,
         }),
-        VerdictAnswer::Beaten(end, late, plan) => Ok(Judged {
+        Verdict::Beaten(end, late, plan) => Ok(Judged {
             pair: Pair { end, late },
             beaten_by: Some(plan),
         }),
-        VerdictAnswer::Refused(number, place) => Err(Refusal { number, place }),
     }
 }
 
 pub fn row_place(book: &[u32], row: u32) -> Result<usize, Refusal> {
-    match planner::row_place(book, row) {
-        RowPlace::At(place) => Ok(place),
-        RowPlace::Refused(number, place) => Err(Refusal { number, place }),
-    }
+    planner::row_place(book, row)
 }
 
 pub fn row_words<'a>(book: &'a [u32], row: u32) -> &'a [u32] {
@@ -144,7 +112,7 @@ fn refusal_of_no_entries(opening: u32, book: &[u32]) -> Result<Option<Refusal>, 
 // How many plans a book has, or its refusal, by the calls that are told an opening, in which they have to agree.
 fn plans_by_opening(opening: u32, book: &[u32]) -> Result<Result<usize, Refusal>, Different> {
     let mut words = [0u32; 512];
-    let listed = list(opening, book, &mut words);
+    let listed = planner::list(opening, book, &mut words);
     let refusal = listed.err();
     let of_plan = ask(Call::OrderOfPlan(1), opening, book, &mut words).err();
     let for_bound = ask(Call::OrderForBound(i32::MAX), opening, book, &mut words).err();

@@ -1,7 +1,8 @@
 // The commands.
-use crate::asked::{Call, Different, Given, Refusal};
+use crate::asked::{Call, Different, Given, Told};
 use crate::word::Words;
 use crate::{asked, say, word};
+use refusals::Refusal;
 use std::io;
 use std::io::Write;
 
@@ -153,7 +154,7 @@ impl State {
     fn ask_into(&self, out: &mut impl Write, call: Call, words: &mut [u32]) -> io::Result<()> {
         match asked::ask(call, self.opening, self.book.as_slice(), words) {
             Ok(given) => write!(out, " {given}")?,
-            Err(refusal) => write!(out, " {refusal}")?,
+            Err(refusal) => write!(out, " {}", Told(refusal))?,
         }
         let held = words.iter().filter(|word| **word == HELD).count();
         write!(out, "+{held}")
@@ -172,7 +173,7 @@ impl State {
                 let rows = words.len().min(book.len() / 4);
                 say::values(out, &words[..rows])
             }
-            Err(refusal) => write!(out, " {refusal}"),
+            Err(refusal) => write!(out, " {}", Told(refusal)),
         }
     }
 
@@ -191,7 +192,7 @@ impl State {
         let book = self.book.as_slice();
         let verdict = match asked::verdict(self.opening, book, self.posting.as_slice()) {
             Ok(verdict) => verdict,
-            Err(refusal) => return write!(out, " {refusal}"),
+            Err(refusal) => return write!(out, " {}", Told(refusal)),
         };
         let pair = verdict.pair;
         match verdict.beaten_by {
@@ -205,7 +206,7 @@ impl State {
         let book = self.book.as_slice();
         match asked::row_place(book, row) {
             Ok(place) => write!(out, " at {place}")?,
-            Err(refusal) => write!(out, " {refusal}")?,
+            Err(refusal) => write!(out, " {}", Told(refusal))?,
         }
         say::values(out, asked::row_words(book, row))
     }
@@ -214,7 +215,7 @@ impl State {
     fn test(&self, out: &mut impl Write, book: &[u32]) -> io::Result<()> {
         match asked::plans(self.opening, book) {
             Ok(Ok(_)) => write!(out, " taken"),
-            Ok(Err(refusal)) => write!(out, " {refusal}"),
+            Ok(Err(refusal)) => write!(out, " {}", Told(refusal)),
             Err(Different) => write!(out, " THE CALLS DIFFER"),
         }
     }

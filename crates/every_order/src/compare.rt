@@ -1,9 +1,10 @@
 // The offered calls against the pairs of every order.
-use crate::asked::{Judged, Refusal};
+use crate::asked::Judged;
 use crate::day::{Day, ROWS};
 use crate::orders::{Front, PAIRS, Pair};
 use crate::tally::{Count, Tally};
 use crate::{asked, orders};
+use refusals::Refusal;
 use std::io::Write;
 use std::{fmt, io};
 

@@ -1,9 +1,6 @@
 // The calls of the open desk, each with what is printed of its answer.
 use crate::line::Line;
-use desk_open::OpenAnswer;
-use desk_pace::PaceAnswer;
-use desk_start::StartAnswer;
-use outcomes::{ListAnswer, OrderAnswer};
+use refusals::Refusal;
 use std::io;
 use std::io::Write;
 
@@ -45,10 +42,15 @@ impl Call {
     }
 }
 
+// A refusal: its number at its place.
+fn refused(out: &mut impl Write, refusal: Refusal) -> io::Result<()> {
+    write!(out, " {}@{}", refusal.number, refusal.place)
+}
+
 fn open(out: &mut impl Write, opening: u32, book: &[u32], desk: &mut [u32]) -> io::Result<()> {
     match open_desk::open(opening, book, desk) {
-        OpenAnswer::Opened(rows, minute) => write!(out, " {rows} {minute}"),
-        OpenAnswer::Refused(number, place) => write!(out, " {number}@{place}"),
+        Ok(opened) => write!(out, " {} {}", opened.rows, opened.minute),
+        Err(refusal) => refused(out, refusal),
     }
 }
 
@@ -62,24 +64,24 @@ fn open_with(out: &mut impl Write, numbers: &[u32], desk: &mut [u32]) -> io::Res
 
 fn start(out: &mut impl Write, desk: &mut [u32], row: u32, minute: u32) -> io::Result<()> {
     match open_desk::start(desk, row, minute) {
-        StartAnswer::Moved(end, late) => write!(out, " {end} {late}"),
-        StartAnswer::Refused(number, place) => write!(out, " {number}@{place}"),
+        Ok(stand) => write!(out, " {} {}", stand.minute, stand.late),
+        Err(refusal) => refused(out, refusal),
     }
 }
 
 // A change that is accepted says nothing more: 0 in the place of a refusal.
 fn pace(out: &mut impl Write, desk: &mut [u32], pace: u32) -> io::Result<()> {
     match open_desk::change_pace(desk, pace) {
-        PaceAnswer::Changed => write!(out, " 0"),
-        PaceAnswer::Refused(number, place) => write!(out, " {number}@{place}"),
+        Ok(()) => write!(out, " 0"),
+        Err(refusal) => refused(out, refusal),
     }
 }
 
 fn list(out: &mut impl Write, desk: &[u32]) -> io::Result<()> {
     let mut words = HELD;
     match open_desk::list(desk, &mut words) {
-        ListAnswer::Plans(count) => write!(out, " {count}")?,
-        ListAnswer::Refused(number, place) => write!(out, " {number}@{place}")?,
+        Ok(count) => write!(out, " {count}")?,
+        Err(refusal) => refused(out, refusal)?,
     }
     values(out, &words)
 }
@@ -87,8 +89,8 @@ fn list(out: &mut impl Write, desk: &[u32]) -> io::Result<()> {
 fn order(out: &mut impl Write, desk: &[u32], plan: u32) -> io::Result<()> {
     let mut words = HELD;
     match open_desk::order_of_plan(desk, plan, &mut words) {
-        OrderAnswer::Pair(end, late) => write!(out, " {end} {late}")?,
-        OrderAnswer::Refused(number, place) => write!(out, " {number}@{place}")?,
+        Ok(attained) => write!(out, " {} {}", attained.end, attained.late)?,
+        Err(refusal) => refused(out, refusal)?,
     }
     values(out, &words)
 }
