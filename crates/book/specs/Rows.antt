@@ -20,7 +20,7 @@ day_of free rows = record { free = free; rows = rows }
 
 -- What a test leaves of the contents.
 abbrev pub refused_or : Tested → Contents → Contents
-refused_or (Ok tt) c = c
+refused_or (Ok _) c = c
 refused_or (Err refusal) c = refused refusal.number refusal.place
 
 -- The end word, kind 7, stands here. It may stand only after a whole row.

@@ -94,14 +94,16 @@ fn list_along(
     let mut count: usize = 0;
     let mut bound: u32 = LARGEST_BOUND;
     let mut reached = trail::set_out(release, minutes, due, by, n, free, bound, &mut order, trail);
-    while let Some(desk) = answer(reached.at.desk, bound) {
+    loop {
+        let Some(desk) = answer(reached.at.desk, bound) else {
+            return Front { count, ends, lates };
+        };
         count = put_pair(&mut ends, &mut lates, count, desk.minute, desk.worst);
         bound = desk.worst - 1;
         reached = trail::resume(
             release, minutes, due, by, n, reached, bound, &mut order, trail,
         );
     }
-    Front { count, ends, lates }
 }
 
 // The list of rows that stand by rank. A small day gets a small trail, which is sooner laid out.

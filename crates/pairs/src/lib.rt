@@ -42,7 +42,8 @@ fn any_clash(dues: &[u32; Desk::PLACES], seconds: &[u32; Desk::PLACES], count: u
     found
 }
 
-// The earliest row that clashes with any row above it: pair by pair, left at the first that clashes. `number` is what the refusal tells.
+// The earliest row that clashes with any row above it: pair by pair, left by the label at the first that clashes. `number` is what
+// the refusal tells.
 fn earliest_clash(
     dues: &[u32; Desk::PLACES],
     seconds: &[u32; Desk::PLACES],
@@ -52,15 +53,17 @@ fn earliest_clash(
     requires { (count ≤ most_rows) × (length dues.now ≡ row_places) × (length seconds.now ≡ row_places) }
     ensures { ColumnsTested dues.now seconds.now count number result }
 {
-    for i in 1..=count {
-        for j in 1..i {
-            if pair_clashes(dues[i], seconds[i], dues[j], seconds[j]) {
-                let place = 4 * (i - 1) + 2;
-                return Err(Refusal { number, place });
+    'rows: {
+        for i in 1..=count {
+            for j in 1..i {
+                if pair_clashes(dues[i], seconds[i], dues[j], seconds[j]) {
+                    let place = 4 * (i - 1) + 2;
+                    break 'rows Err(Refusal { number, place });
+                }
             }
         }
+        Ok(())
     }
-    Ok(())
 }
 
 // The test of row pairs, over the columns of the rows. Most books have no clash: so it is asked first whether there is one, without a
@@ -74,9 +77,8 @@ pub fn pair_tests(
     requires { (count ≤ most_rows) × (length dues.now ≡ row_places) × (length seconds.now ≡ row_places) }
     ensures { ColumnsTested dues.now seconds.now count number result }
 {
-    if any_clash(dues, seconds, count) {
-        earliest_clash(dues, seconds, count, number)
-    } else {
-        Ok(())
+    if !any_clash(dues, seconds, count) {
+        return Ok(());
     }
+    earliest_clash(dues, seconds, count, number)
 }

@@ -27,8 +27,8 @@ loop-desk-init c =
       refl,
     )
 
-pub returns : goal.returns
-returns c =
+pub returns-in_default : goal.returns-in_default
+returns-in_default c =
     let a = c.args in
     let l = c.loop-desk in
     let job = columns a.release.now a.minutes.now a.due.now in

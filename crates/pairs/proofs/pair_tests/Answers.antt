@@ -4,7 +4,7 @@ use mathlib.Core.Path.{sym, ◌∙◌}
 use Rattle.pairs.proofs.Columns.{none_clashes}
 use Rattle.pairs.proofs.pair_tests.Goals as goal
 
-pub returns-else-any_clash : goal.returns-else-any_clash
-returns-else-any_clash c =
+pub returns-then-not-any_clash : goal.returns-then-not-any_clash
+returns-then-not-any_clash c =
     let a = c.args in
-    none_clashes a.dues.now a.seconds.now a.count a.number (sym c.any_clash.ensures ∙ c.if-any_clash.false)
+    none_clashes a.dues.now a.seconds.now a.count a.number (sym c.any_clash.ensures ∙ c.if-not-any_clash.true)
