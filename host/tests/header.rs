@@ -307,7 +307,7 @@ fn source() {
     let results: BTreeSet<&str> = exported.iter().map(|f| f.2.as_str()).collect();
     assert_eq!(results.len(), 1, "one answer serves all calls");
     let answer = results.first().unwrap();
-    let head = format!("#[repr(C)] #[derive(Clone, Copy)] pub struct {answer} {{");
+    let head = format!("#[repr(C)] #[derive(Clone, Copy, Default)] pub struct {answer} {{");
     let answers = flat(&file("crates/answers/src/lib.rt"));
     let declared = flat(&file("host/src/linked.rs"));
     assert_eq!(
