@@ -175,8 +175,8 @@
  * on success only, and only as far as each call says; further words of them
  * hold what they held. A refused call writes nothing.
  *
- * STACK. A call uses up to 40 KB of its caller's stack, that of several desks
- * up to 84 KB, as measured on x86-64; that there is room is not proved. In a
+ * STACK. A call uses up to 52 KB of its caller's stack, that of several desks
+ * up to 86 KB, as measured on x86-64; that there is room is not proved. In a
  * program that looks up memcpy where it is first called, the first call uses 2
  * KB more. Give a thread that calls 64 KB at least, for several desks 96 KB.
  *
