@@ -66,8 +66,13 @@ fn end_day(
     requires { size + 5144 ≤ length sheet.old }
     ensures { IfOk result (λ end. end ≤ size + 5144) }
 {
-    day.finish(book)
-        .map_err(|wrong| wrong_lines::in_month(day, Some(wrong), days))?;
+    day.finish(book).map_err(|wrong| wrong_lines::in_month(
+        day.place.line,
+        day.stage,
+        day.rows,
+        Some(wrong),
+        days,
+    ))?;
     let line = day.place.line;
     put_day(posted, day, book, sheet, size).map_err(|wrong| WrongLine { line, wrong })
 }
@@ -99,10 +104,10 @@ fn read_day(
     let mut day = Day::new(from);
     let Err(wrong) = day.read_lines(text, &mut book) else {
         let missing = day.finish(&mut book).err();
-        return Err(wrong_lines::in_month(&day, missing, days));
+        return Err(wrong_lines::in_month(day.place.line, day.stage, day.rows, missing, days));
     };
     let Some(posted) = posted_line(text, day.place.at, wrong) else {
-        return Err(wrong_lines::in_month(&day, Some(wrong), days));
+        return Err(wrong_lines::in_month(day.place.line, day.stage, day.rows, Some(wrong), days));
     };
     let place = Place {
         at: posted.next,

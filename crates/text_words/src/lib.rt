@@ -22,7 +22,7 @@ pub enum Wrong {
 // The words of a line that are still to be read.
 #[derive(Clone, Copy)]
 pub struct Words<'a> {
-    rest: &'a [u8],
+    pub rest: &'a [u8],
 }
 
 // A line of a text, its comment left out, and where the next one begins.

@@ -5,7 +5,7 @@ ghost use Rattle.std.specs.Prelude.{◌≡◌, None};
 ghost use Rattle.wrong_lines.specs.declared.Wrong.TheVariants.{NoPosted};
 
 use std::fmt;
-use text_days::{Day, Stage};
+use text_days::Stage;
 
 // What is wrong with a line of a month: what may be wrong in a day, or what its posted lines bring, one of them the order number that no
 // row of the day has.
@@ -68,21 +68,24 @@ impl<W: fmt::Display> fmt::Display for WrongLine<W> {
     }
 }
 
-// The line of a day that is wrong, in a month and after so many days: what is wrong in the day, or if nothing is, that it ends without
-// its posted line.
-pub fn in_month(day: &Day, wrong: Option<text_days::Wrong>, days: usize) -> WrongLine<Wrong>
-    ensures line { result.line ≡ day.now.place.line }
+// The line of a day that is wrong, in a month and after so many days, by the line, what may come there, and the rows of the day so far:
+// what is wrong in the day, or if nothing is, that it ends without its posted line.
+pub fn in_month(
+    line: usize,
+    stage: Stage,
+    rows: usize,
+    wrong: Option<text_days::Wrong>,
+    days: usize,
+) -> WrongLine<Wrong>
+    ensures line { result.line ≡ line }
     ensures unposted { wrong ≡ None → result.wrong ≡ NoPosted }
 {
-    let new = day.stage == Stage::Free && days > 0;
+    let new = stage == Stage::Free && days > 0;
     let wrong = match wrong {
         None => Wrong::NoPosted,
-        Some(text_days::Wrong::FreeAgain) if day.rows > 0 => Wrong::NoPosted,
+        Some(text_days::Wrong::FreeAgain) if rows > 0 => Wrong::NoPosted,
         Some(wrong) if new && wrong != text_days::Wrong::Unknown => Wrong::AfterPosted,
         Some(wrong) => Wrong::Day(wrong),
     };
-    WrongLine {
-        line: day.place.line,
-        wrong,
-    }
+    WrongLine { line, wrong }
 }
