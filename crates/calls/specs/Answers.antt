@@ -1,5 +1,5 @@
 -- Answers in the terms of the table of refusals: what each case of an answer says. A field that a case does not speak of is 0.
--- Rests on: the declared answers.
+-- Rests on: the answers of outcomes and row_calls.
 use Rattle.std.specs.Prelude.{ℕ, ℤ, pos, Ok, Err}
 use Rattle.row_calls.specs.Places.{RowPlace}
 use Rattle.outcomes.specs.Outcomes.{ListAnswer, OrderAnswer, VerdictAnswer}

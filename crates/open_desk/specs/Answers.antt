@@ -1,5 +1,5 @@
 -- Answers of the open desk's calls in the terms of the table of refusals. A field that a case does not speak of is 0.
--- Rests on: the declared answers, the calls' Answers.
+-- Rests on: the answers of desk_open, desk_start and desk_pace, the calls' Answers.
 use Rattle.std.specs.Prelude.{ℕ, ℤ, pos, Ok, Err}
 use Rattle.calls.specs.Answers.{Said, said_no}
 use Rattle.desk_open.specs.Opens.{OpenAnswer}

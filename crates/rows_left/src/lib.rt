@@ -44,13 +44,6 @@ pub fn numbers_left(desk: &[u32], rows: &mut [u32; Desk::PLACES]) -> usize
     m
 }
 
-// A row as a place in a column.
-pub fn place_of(x: u32) -> usize
-    ensures { result ≡ x }
-{
-    x as usize
-}
-
 // What the rows of these numbers have in a column of the desk, from place 1 on.
 pub fn column_left(
     desk: &[u32],

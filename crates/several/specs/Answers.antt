@@ -1,6 +1,6 @@
 -- The answer for several desks in the terms of the table of refusals: what the other calls say, and with it the desk that a refusal
 -- concerns, from 1, 0 where it concerns none, and the sum of the overtimes. A field that a case does not speak of is 0.
--- Rests on: the declared answer, the calls' Answers.
+-- Rests on: the answer of Calls, the calls' Answers.
 use Rattle.std.specs.Prelude.{ℕ, ℤ, Ok, Err}
 use Rattle.calls.specs.Answers.{Said, said_no}
 use Rattle.several.specs.Calls.{SeveralAnswer}
