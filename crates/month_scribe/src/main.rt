@@ -9,7 +9,7 @@
 // The next day begins with free. A text of no day is a month of no day.
 #![tactic(auto)]
 
-ghost use Rattle.std.specs.Prelude.{◌≡◌, ◌+◌, ◌*◌, ◌≤◌, ◌<◌, length, take, IfOk, IfSome};
+ghost use Rattle.std.specs.Prelude.{◌≡◌, ◌+◌, ◌*◌, ◌≤◌, ◌<◌, length, take, IfOk, IfErr, IfSome};
 
 use month_words::MOST;
 use std::io;
@@ -34,6 +34,13 @@ struct Month {
     size: usize,
 }
 
+// Room for the numbers of a posted line.
+fn no_numbers() -> [u32; MOST]
+    ensures { 257 ≡ length result }
+{
+    [0; MOST]
+}
+
 // Reads the numbers of a posted line, and puts the day to the sheet: the bytes that the sheet then has.
 fn put_day(
     words: Words<'_>,
@@ -45,13 +52,20 @@ fn put_day(
     requires { size + 5144 ≤ length sheet.old }
     ensures { IfOk result (λ end. end ≤ size + 5144) }
 {
-    let mut numbers = [0; MOST];
+    let mut numbers = no_numbers();
     let count = text_words::read_numbers(words, &mut numbers)?;
     let posting = &mut numbers[..count];
     if let Err(k) = month_words::find_rows(book, day.rows, posting) {
         return Err(Wrong::NoRow(posting[k]));
     }
     Ok(month_words::put_day(&book[..day.book_words()], posting, sheet, size))
+}
+
+// The line at which a day, after so many days, is wrong, and what is wrong there.
+fn stopped(day: &Day, wrong: Option<text_days::Wrong>, days: usize) -> WrongLine<Wrong>
+    ensures { result.line ≡ day.now.place.line }
+{
+    wrong_lines::in_month(day.place.line, day.stage, day.rows, wrong, days)
 }
 
 // Puts a day that ends at a posted line, and comes after so many days: the bytes that the sheet then has.
@@ -64,15 +78,11 @@ fn end_day(
     size: usize,
 ) -> Result<usize, WrongLine<Wrong>>
     requires { size + 5144 ≤ length sheet.old }
-    ensures { IfOk result (λ end. end ≤ size + 5144) }
+    ensures end { IfOk result (λ end. end ≤ size + 5144) }
+    ensures line { IfErr result (λ wrong. wrong.line ≡ day.now.place.line) }
 {
-    day.finish(book).map_err(|wrong| wrong_lines::in_month(
-        day.place.line,
-        day.stage,
-        day.rows,
-        Some(wrong),
-        days,
-    ))?;
+    day.finish(book)
+        .map_err(|wrong| stopped(day, Some(wrong), days))?;
     let line = day.place.line;
     put_day(posted, day, book, sheet, size).map_err(|wrong| WrongLine { line, wrong })
 }
@@ -97,17 +107,18 @@ fn read_day(
     size: usize,
 ) -> Result<Month, WrongLine<Wrong>>
     requires { (from.at ≤ length text.now + 1) × (from.line ≤ from.at + 1) × (size + 5144 ≤ length sheet.old) }
-    ensures { IfOk result (λ month. (month.place.at ≤ length text.now + 1) × (month.place.line ≤ month.place.at + 1)
+    ensures month { IfOk result (λ month. (month.place.at ≤ length text.now + 1) × (month.place.line ≤ month.place.at + 1)
         × (month.size ≤ size + 5144)) }
+    ensures line { IfErr result (λ wrong. wrong.line ≤ length text.now + 2) }
 {
     let mut book = [0; Day::WORDS];
     let mut day = Day::new(from);
     let Err(wrong) = day.read_lines(text, &mut book) else {
         let missing = day.finish(&mut book).err();
-        return Err(wrong_lines::in_month(day.place.line, day.stage, day.rows, missing, days));
+        return Err(stopped(&day, missing, days));
     };
     let Some(posted) = posted_line(text, day.place.at, wrong) else {
-        return Err(wrong_lines::in_month(day.place.line, day.stage, day.rows, Some(wrong), days));
+        return Err(stopped(&day, Some(wrong), days));
     };
     let place = Place {
         at: posted.next,

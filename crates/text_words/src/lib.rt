@@ -2,10 +2,11 @@
 // line. A number is digits only, and fits the 29 bits of the value of a book's word.
 #![tactic(auto)]
 
-ghost use Rattle.std.specs.Prelude.{◌≡◌, ◌+◌, ◌≤◌, ◌<◌, length, IfOk, IfErr, IfSome};
+ghost use Rattle.std.specs.Prelude.{◌≡◌, ◌+◌, ◌≤◌, ◌<◌, length, drop, IfOk, IfErr, IfSome};
 ghost use Rattle.std.specs.Iterator.{at_most};
 ghost use Rattle.text_words.specs.declared.Wrong.TheVariants.{More};
 ghost use Rattle.text_words.specs.Numbers.{all_digits, decimal, sized, number_of};
+ghost use Rattle.text_words.specs.Parts.{Begins, WordIn, LineIn};
 
 // The most numbers of a line: those of a posting.
 pub const MOST: usize = 257;
@@ -82,6 +83,8 @@ impl<'a> Iterator for Words<'a> {
 
     ghost remaining = { λ words. at_most (length words.rest.now) };
 
+    ghost next_gives = { λ line word after. IfSome word (λ found. WordIn found.now after.rest.now line.rest.now) };
+
     fn next(&mut self) -> Option<&'a [u8]> {
         let line = self.rest;
         let start = line.iter().position(|byte| !is_blank(*byte))?;
@@ -115,13 +118,24 @@ impl<'a> Words<'a> {
     }
 }
 
+// Where the first line of a text ends. An empty line is told at once: a text may have a million of them.
+fn line_end(text: &[u8]) -> usize
+    ensures { result ≤ length text.now }
+{
+    match text.split_first() {
+        Some((b'\n', _)) | None => 0,
+        Some((_, after)) => 1 + find(after, b'\n'),
+    }
+}
+
 // The line of a text that begins at `at`.
 pub fn line_at(text: &[u8], at: usize) -> Line<'_>
     requires { at ≤ length text.now }
-    ensures { (at < result.next) × (result.next ≤ length text.now + 1) }
+    ensures next { (at < result.next) × (result.next ≤ length text.now + 1) }
+    ensures part { Begins result.words.rest.now (drop at text.now) }
 {
     let rest = &text[at..];
-    let stop = find(rest, b'\n');
+    let stop = line_end(rest);
     let line = &rest[..stop];
     let end = find(line, b'#');
     Line {
@@ -133,7 +147,8 @@ pub fn line_at(text: &[u8], at: usize) -> Line<'_>
 // The line of a text that begins at `at`, if its first word is this one: the words after that.
 pub fn begins<'a>(text: &'a [u8], at: usize, word: &[u8]) -> Option<Line<'a>>
     requires { at ≤ length text.now }
-    ensures { IfSome result (λ line. (at < line.next) × (line.next ≤ length text.now + 1)) }
+    ensures next { IfSome result (λ line. (at < line.next) × (line.next ≤ length text.now + 1)) }
+    ensures part { IfSome result (λ line. LineIn line.words.rest.now (drop at text.now)) }
 {
     let mut line = line_at(text, at);
     if line.words.next()? == word {
@@ -145,7 +160,8 @@ pub fn begins<'a>(text: &'a [u8], at: usize, word: &[u8]) -> Option<Line<'a>>
 
 // Reads the numbers of a line, as many as `values` has at most and nothing after them, to the front of `values`: how many.
 pub fn read_numbers(mut words: Words<'_>, values: &mut [u32]) -> Result<usize, Wrong>
-    ensures { IfOk result (λ count. count ≤ length values.new) }
+    ensures count { IfOk result (λ count. count ≤ length values.new) }
+    ensures same_length { length values.new ≡ length values.old }
 {
     for (k, value) in values.iter_mut().enumerate() {
         let Some(word) = words.next() else {
