@@ -1,3 +1,4 @@
+pub mod Inserting
 pub mod Sorting
 pub mod Keyed
 pub mod Ranking
