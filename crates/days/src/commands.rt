@@ -74,7 +74,7 @@ impl Command {
 
 // The book and the posting; the opening minutes, a place, the words of the result buffer, and by how much more each release and due rises
 // than the one above.
-#[derive(Drop)]
+#[derive(Clone, Copy)]
 pub struct State {
     book: Words<BOOK>,
     posting: Words<8>,

@@ -41,7 +41,7 @@ impl Prefix {
 }
 
 // What the input has said so far, the command that is read, and what of the next number.
-#[derive(Drop)]
+#[derive(Clone, Copy)]
 pub struct Input {
     state: State,
     command: Option<Command>,

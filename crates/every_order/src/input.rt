@@ -15,7 +15,7 @@ enum Part {
 }
 
 // The number that is read, the day of the line, the counts so far, and how many of them are printed.
-#[derive(Drop)]
+#[derive(Clone, Copy)]
 pub struct Input {
     part: Part,
     value: u32,

@@ -11,7 +11,7 @@ const KIND: u32 = 536_870_912;
 
 // The numbers of a line, how many they are, the number that is being read, and the call of the last letter. A call that is given too few
 // numbers finds those of an earlier line after them.
-#[derive(Drop)]
+#[derive(Clone, Copy)]
 pub struct Line {
     pub numbers: [u32; ROOM],
     count: usize,

@@ -20,7 +20,7 @@ use schedule::{Desk, Row};
 const MARGINS: [u32; 8] = [60, 120, 480, 1_440, 4_320, 10_080, 20_160, 43_200];
 
 // The last turnaround class.
-const LAST_CLASS: u32 = 7;
+pub const LAST_CLASS: u32 = 7;
 
 // The number stands among the first `count` numbers. The loop goes on where it is found: so it has no branch, and several places are
 // compared at a time.
